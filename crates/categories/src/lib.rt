@@ -1,0 +1,4 @@
+pub mod category;
+pub mod handbook;
+pub mod plan;
+mod printed;

@@ -1,0 +1,3 @@
+pub mod Wider
+pub mod Passing
+pub mod Statements

@@ -1,0 +1,3 @@
+pub mod comparing;
+pub mod laws;
+pub mod premises;

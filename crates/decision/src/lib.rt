@@ -1,0 +1,5 @@
+pub mod deciding;
+mod judging;
+pub mod measuring;
+pub mod outcome;
+pub mod rule;
