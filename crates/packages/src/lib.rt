@@ -1,0 +1,4 @@
+pub mod list;
+pub mod package;
+pub mod reading;
+pub mod records;
