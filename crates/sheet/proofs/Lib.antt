@@ -1,0 +1,9 @@
+pub mod Asking
+pub mod Errors
+pub mod Filling
+pub mod Questions
+pub mod Ranges
+pub mod Soundness
+pub mod Taken
+pub mod Tares
+pub mod Weighed

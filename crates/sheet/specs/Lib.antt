@@ -1,0 +1,9 @@
+pub mod Sound
+pub mod Refusals
+pub mod Terms
+pub mod Views
+pub mod Steps
+pub mod Tare
+pub mod Calls
+pub mod Starts
+pub mod Closing
