@@ -28,7 +28,7 @@ fn place_of(entry: Entry) -> u32 {
     }
 }
 
-pub fn print_refusal(rt: &LibcRuntime, refusal: Refusal) -> Result<(), AnyError> {
+pub(crate) fn print_refusal(rt: &LibcRuntime, refusal: Refusal) -> Result<(), AnyError> {
     let letter = refusal.letter();
     let number = refusal.number();
     match refusal.total() {
@@ -39,7 +39,7 @@ pub fn print_refusal(rt: &LibcRuntime, refusal: Refusal) -> Result<(), AnyError>
 }
 
 // The call and its answer.
-pub fn print_answer(
+pub(crate) fn print_answer(
     rt: &LibcRuntime,
     entry: Entry,
     refusal: Option<Refusal>,
@@ -67,7 +67,7 @@ fn word_of(verdict: Verdict) -> &'static str {
     }
 }
 
-pub fn print_record(rt: &LibcRuntime, record: &Record) -> Result<(), AnyError> {
+pub(crate) fn print_record(rt: &LibcRuntime, record: &Record) -> Result<(), AnyError> {
     let decision = record.decision();
     let sample = decision.figures.sample;
     let opened = record.tare_total();
@@ -89,7 +89,7 @@ pub fn print_record(rt: &LibcRuntime, record: &Record) -> Result<(), AnyError> {
     Ok(())
 }
 
-pub fn print_errors(rt: &LibcRuntime, errors: &[i32]) -> Result<(), AnyError> {
+pub(crate) fn print_errors(rt: &LibcRuntime, errors: &[i32]) -> Result<(), AnyError> {
     print!(rt, "errors")?;
     for error in errors {
         print!(rt, " {error}")?;
@@ -99,7 +99,7 @@ pub fn print_errors(rt: &LibcRuntime, errors: &[i32]) -> Result<(), AnyError> {
 }
 
 // What the rule for two sheets says, by the premises that hold.
-pub fn print_rule(rt: &LibcRuntime, premises: Premises) -> Result<(), AnyError> {
+pub(crate) fn print_rule(rt: &LibcRuntime, premises: Premises) -> Result<(), AnyError> {
     if let Some(place) = premises.lower {
         let package = place.saturating_add(1);
         println!(

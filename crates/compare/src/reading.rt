@@ -107,7 +107,7 @@ fn read_entry(text: &str) -> Option<Entry> {
 }
 
 impl Block {
-    pub fn new(heap: Global) -> Block {
+    pub(crate) fn new(heap: Global) -> Block {
         Block {
             typed: None,
             entries: Vec::new(heap),
@@ -116,7 +116,7 @@ impl Block {
     }
 
     // One line more; after the first that cannot be read, lines are passed over.
-    pub fn add(&mut self, line: u64, text: &str) -> Result<(), AllocError> {
+    pub(crate) fn add(&mut self, line: u64, text: &str) -> Result<(), AllocError> {
         if self.wrong.is_some() {
             return Ok(());
         }

@@ -189,7 +189,7 @@ fn conclude(
 }
 
 // Plays both sheets, then starts and runs both again over the same lists for their records.
-pub fn work(rt: &LibcRuntime, first: &Block, second: &Block) -> Result<(), AnyError> {
+pub(crate) fn work(rt: &LibcRuntime, first: &Block, second: &Block) -> Result<(), AnyError> {
     if let Some(line) = first.wrong.or(second.wrong) {
         println!(rt, "line {line} cannot be read")?;
         return Ok(());

@@ -9,7 +9,7 @@ use decision::outcome::Verdict;
 use decision::rule::Counted;
 use std::error::AnyError;
 
-pub fn print_wrong(rt: &LibcRuntime, line: u64, wrong: Wrong) -> Result<(), AnyError> {
+pub(crate) fn print_wrong(rt: &LibcRuntime, line: u64, wrong: Wrong) -> Result<(), AnyError> {
     let what = match wrong {
         Wrong::Order => "a lot begins with one line `lot`, then lines `labels` and `errors`",
         Wrong::Words => "a lot is category, kind, lot size, division and label",
@@ -22,7 +22,7 @@ pub fn print_wrong(rt: &LibcRuntime, line: u64, wrong: Wrong) -> Result<(), AnyE
     Ok(())
 }
 
-pub fn print_fault(rt: &LibcRuntime, fault: Fault, sample: u32) -> Result<(), AnyError> {
+pub(crate) fn print_fault(rt: &LibcRuntime, fault: Fault, sample: u32) -> Result<(), AnyError> {
     match fault {
         Fault::Count | Fault::Mavs => println!(
             rt,
@@ -43,7 +43,7 @@ pub fn print_fault(rt: &LibcRuntime, fault: Fault, sample: u32) -> Result<(), An
     Ok(())
 }
 
-pub fn print_plan(rt: &LibcRuntime, line: u64, plan: Plan) -> Result<(), AnyError> {
+pub(crate) fn print_plan(rt: &LibcRuntime, line: u64, plan: Plan) -> Result<(), AnyError> {
     let counted = match plan.rule.counted {
         Counted::Unreasonable => "unreasonable",
         Counted::Short => "short",
@@ -80,7 +80,7 @@ fn print_package(
     Ok(())
 }
 
-pub fn print_packages(
+pub(crate) fn print_packages(
     rt: &LibcRuntime,
     errors: &[i32],
     mavs: &[(u64, u16)],
@@ -92,7 +92,7 @@ pub fn print_packages(
     Ok(())
 }
 
-pub fn print_decision(rt: &LibcRuntime, decision: Decision) -> Result<(), AnyError> {
+pub(crate) fn print_decision(rt: &LibcRuntime, decision: Decision) -> Result<(), AnyError> {
     let verdict = match decision.verdict {
         Verdict::Mav => "mav: fails",
         Verdict::Plan => "plan: passes",
@@ -118,7 +118,7 @@ pub fn print_decision(rt: &LibcRuntime, decision: Decision) -> Result<(), AnyErr
 }
 
 // What the rule for two lists says of them.
-pub fn print_comparison(rt: &LibcRuntime, comparison: Comparison) -> Result<(), AnyError> {
+pub(crate) fn print_comparison(rt: &LibcRuntime, comparison: Comparison) -> Result<(), AnyError> {
     if let Some(place) = comparison.premises.lower {
         let package = place.saturating_add(1);
         println!(

@@ -131,7 +131,7 @@ fn read_errors(heap: Global, text: &str) -> Result<Option<Vec<i32>>, AllocError>
 }
 
 impl Block {
-    pub fn new(heap: Global) -> Block {
+    pub(crate) fn new(heap: Global) -> Block {
         Block {
             typed: None,
             labels: Vec::new(heap),
@@ -177,7 +177,7 @@ impl Block {
     }
 
     // One line more; after the first that is wrong, lines are passed over.
-    pub fn add(&mut self, heap: Global, number: u64, text: &str) -> Result<(), AllocError> {
+    pub(crate) fn add(&mut self, heap: Global, number: u64, text: &str) -> Result<(), AllocError> {
         if self.wrong.is_some() {
             return Ok(());
         }

@@ -115,7 +115,7 @@ fn work_lot(rt: &LibcRuntime, block: &Block, typed: Typed, plan: Plan) -> Result
 }
 
 // Decides the lot of a block, or says why it is not decided.
-pub fn work(rt: &LibcRuntime, block: &Block) -> Result<(), AnyError> {
+pub(crate) fn work(rt: &LibcRuntime, block: &Block) -> Result<(), AnyError> {
     if let Some((line, wrong)) = block.wrong {
         return print_wrong(rt, line, wrong);
     }
