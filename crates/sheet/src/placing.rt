@@ -60,7 +60,8 @@ pub(crate) fn correct<P: Package>(
     match list.at(i) {
         Reading::Empty => Err(Refusal::Unfit),
         _ => {
-            list.put(i, Reading::Weighed { gross, label });
+            let corrected = Reading::Weighed { gross, label };
+            list.put(i, corrected);
             Ok(())
         }
     }
