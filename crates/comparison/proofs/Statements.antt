@@ -17,13 +17,15 @@ use Rattle.decision.specs.declared.outcome.Figures.{Figures}
 use Rattle.decision.specs.declared.outcome.Verdict.{Verdict}
 use Rattle.decision.specs.declared.rule.Rule.{Rule}
 use Rattle.decision.specs.Answer.{Decided}
-use Rattle.decision.specs.Sample.{total, short, unreasonable, figures}
-use Rattle.decision.specs.Verdicts.{counted, verdict, Passes}
+use Rattle.decision.specs.Sample.{total, short, unreasonable, figures, pairs}
+use Rattle.decision.specs.Verdicts.{counted, verdict, Passes, spread}
 use Rattle.comparison.specs.declared.premises.Premises.{Premises}
 use Rattle.comparison.specs.Compared.{Stated, Rule-for-two}
 use Rattle.comparison.specs.Laws.{Follows}
 use Rattle.comparison.specs.Rises.{at, rise, None-lower, Order-kept, Lower, Crosses, Crossed}
 use Rattle.comparison.proofs.Passing.{follows}
+use Rattle.comparison.proofs.Wider.{wider}
+use Rattle.decision.proofs.Spread.{spread-pairs}
 
 module _ (es ds : List ℤ) where
   lower-iff : (o : Option ℕ) → length ds ≡ length es → Lower es ds o → (o ≡ None → None-lower es ds) × (None-lower es ds → o ≡ None)
@@ -61,6 +63,7 @@ module _ (es ds : List ℤ) where
       short = λ n. at-both (λ f g. g .short ≤ f .short) (follows rule division mavs es ds n .short);
       unreasonable = λ n. at-both (λ f g. g .unreasonable ≤ f .unreasonable) (follows rule division mavs es ds n .unreasonable);
       counted = λ n. subst (λ (k : ℕ). k ≤ one .counted) (sym (b .concluded .counted)) (subst (λ (k : ℕ). counted rule (figures division mavs ds) ≤ k) (sym (a .concluded .counted)) (follows rule division mavs es ds n .counted));
+      spread = λ n s. at-both (λ f g. spread f ≤ℤ spread g) (subst (λ z. z ≤ℤ spread (figures division mavs ds)) (sym (spread-pairs es)) (subst (λ z. pairs es ≤ℤ z) (sym (spread-pairs ds)) (wider es ds (n .0) s)));
       order = λ n s. passing (follows rule division mavs es ds n .order s);
       average = λ n s. passing (follows rule division mavs es ds n .average (subst (λ (f : Figures). pos 0 ≤ℤ f .total) (a .concluded .figures) s));
     }

@@ -13,7 +13,7 @@ use Rattle.decision.specs.declared.outcome.Decision.{Decision}
 use Rattle.decision.specs.declared.rule.Rule.{Rule}
 use Rattle.decision.specs.Answer.{refusal, Decided}
 use Rattle.decision.specs.Sample.{total}
-use Rattle.decision.specs.Verdicts.{Passes}
+use Rattle.decision.specs.Verdicts.{spread, Passes}
 use Rattle.comparison.specs.declared.premises.Comparison.{Comparison}
 use Rattle.comparison.specs.declared.premises.Premises.{Premises}
 use Rattle.comparison.specs.declared.premises.Refused.{Refused}
@@ -34,6 +34,7 @@ pub record Rule-for-two (es ds : List ℤ) (first second : Decision) : Type 0 wh
   pub short : None-lower es ds → second .figures .short ≤ first .figures .short
   pub unreasonable : None-lower es ds → second .figures .unreasonable ≤ first .figures .unreasonable
   pub counted : None-lower es ds → second .counted ≤ first .counted
+  pub spread : None-lower es ds → Order-kept es ds → spread (first .figures) ≤ℤ spread (second .figures)
   pub order : None-lower es ds → Order-kept es ds → Passes (first .verdict) → Passes (second .verdict)
   pub average : None-lower es ds → pos 0 ≤ℤ first .figures .total → Passes (first .verdict) → Passes (second .verdict)
 
