@@ -1,3 +1,5 @@
+#![tactic(auto)]
+
 // Prints the transcripts of many texts in one run. Each text comes behind its length in eight digits, and so does its transcript.
 use console::transcribing::transcribe;
 use packages::list::PackageList;

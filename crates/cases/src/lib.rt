@@ -1,3 +1,5 @@
+#![tactic(auto)]
+
 ghost use Rattle.cases.specs.Worked.{WorkedCases};
 
 // Worked cases of the rules, over the definitions that the contracts cite.

@@ -1,3 +1,5 @@
+#![tactic(auto)]
+
 pub mod category;
 pub mod handbook;
 pub mod plan;

@@ -1,3 +1,5 @@
+#![tactic(auto)]
+
 pub mod accounts;
 pub mod command;
 pub mod fault;

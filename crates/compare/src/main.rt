@@ -1,3 +1,5 @@
+#![tactic(auto)]
+
 // Runs two lists of calls side by side on two new sheets, and says what the rule for two sheets says of their records.
 mod printing;
 mod reading;

@@ -1,3 +1,5 @@
+#![tactic(auto)]
+
 // Runs two sheet texts side by side on two new sheets, and says what the rule for two sheets says of their records.
 mod playing;
 mod printing;

@@ -1,3 +1,5 @@
+#![tactic(auto)]
+
 pub mod comparing;
 pub mod laws;
 pub mod premises;

@@ -1,3 +1,5 @@
+#![tactic(auto)]
+
 // Decides lots from package errors typed on the standard input, and compares two lists of errors for one lot.
 mod printing;
 mod reading;

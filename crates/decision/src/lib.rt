@@ -1,3 +1,5 @@
+#![tactic(auto)]
+
 pub mod deciding;
 mod judging;
 pub mod measuring;

@@ -1,3 +1,5 @@
+#![tactic(auto)]
+
 pub mod contest;
 pub mod ending;
 pub mod entry;

@@ -1,3 +1,5 @@
+#![tactic(auto)]
+
 // Reads a sheet as text on the standard input, and prints its refusal lines and its report.
 use console::transcribing::transcribe;
 use packages::list::PackageList;

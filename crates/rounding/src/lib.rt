@@ -1,3 +1,5 @@
+#![tactic(auto)]
+
 ghost use Rattle.std.specs.Prelude.{◌≡◌, if◌then◌else◌, Some, None, nat_eq};
 ghost use Rattle.rounding.specs.Nearest.{nearest as nearest_of, NearestLaw};
 

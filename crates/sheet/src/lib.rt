@@ -1,3 +1,5 @@
+#![tactic(auto)]
+
 mod accounts;
 mod acting;
 pub mod call;

@@ -3,5 +3,4 @@ pub mod Apart
 pub mod Digits
 pub mod LineLaws
 pub mod Own
-pub mod Tells
 pub mod WordLaws

@@ -1,3 +1,5 @@
+#![tactic(auto)]
+
 pub mod lines;
 pub mod numbers;
 pub mod reader;

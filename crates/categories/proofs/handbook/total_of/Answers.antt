@@ -25,16 +25,16 @@ module _ (row : Row) (ratio : ℕ) {category : HandbookCategory} where
   b_30 k s e = cc
 
 pub returns-in-12 : goal.returns-in-12
-returns-in-12 c = a_12 c.args.row c.args.ratio c.in-A.is c.in-12.is c.reached-of-12.ensures
+returns-in-12 c = a_12 c.args.row c.args.ratio c.in-A.is c.in-12.is c.reached-of_12.ensures
 
 pub returns-in-24 : goal.returns-in-24
-returns-in-24 c = a_24 c.args.row c.args.ratio c.in-A.is c.in-24.is c.reached-of-12.ensures
+returns-in-24 c = a_24 c.args.row c.args.ratio c.in-A.is c.in-24.is c.reached-of_12.ensures
 
 pub returns-in-48 : goal.returns-in-48
-returns-in-48 c = a_48 c.args.row c.args.ratio c.in-A.is c.in-48.is c.reached-of-12.ensures
+returns-in-48 c = a_48 c.args.row c.args.ratio c.in-A.is c.in-48.is c.reached-of_12.ensures
 
 pub returns-in-10 : goal.returns-in-10
-returns-in-10 c = b_10 c.args.row c.args.ratio c.in-B.is c.in-10.is c.reached-of-10.ensures
+returns-in-10 c = b_10 c.args.row c.args.ratio c.in-B.is c.in-10.is c.reached-of_10.ensures
 
 pub returns-in-30 : goal.returns-in-30
-returns-in-30 c = b_30 c.args.row c.args.ratio c.in-B.is c.in-30.is c.reached-of-10.ensures
+returns-in-30 c = b_30 c.args.row c.args.ratio c.in-B.is c.in-30.is c.reached-of_10.ensures

@@ -11,11 +11,11 @@ use Rattle.comparison.proofs.comparing.compare.Goals as goal
 as_long : (mavs : List (ℕ × ℕ)) (rule : Rule) (es ds : List ℤ) → refusal (length mavs) rule es ≡ None → refusal (length mavs) rule ds ≡ None → length ds ≡ length es
 as_long mavs rule es ds a b = sym (accepted (length mavs) rule ds b).beside ∙ (accepted (length mavs) rule es a).beside
 
-pub first-lower-lower-requires : goal.first-lower-lower-requires
-first-lower-lower-requires c = as_long c.args.mavs.now c.args.rule c.args.first.now c.args.second.now c.in-Ok.ensures.0 c.in-Ok-decide.ensures.0
+pub first_lower-lower-requires : goal.first_lower-lower-requires
+first_lower-lower-requires c = as_long c.args.mavs.now c.args.rule c.args.first.now c.args.second.now c.in-Ok.ensures.0 c.in-Ok-decide.ensures.0
 
-pub first-crossed-crossed-requires : goal.first-crossed-crossed-requires
-first-crossed-crossed-requires c = as_long c.args.mavs.now c.args.rule c.args.first.now c.args.second.now c.in-Ok.ensures.0 c.in-Ok-decide.ensures.0
+pub first_crossed-crossed-requires : goal.first_crossed-crossed-requires
+first_crossed-crossed-requires c = as_long c.args.mavs.now c.args.rule c.args.first.now c.args.second.now c.in-Ok.ensures.0 c.in-Ok-decide.ensures.0
 
 pub returns : goal.returns
 returns c =
@@ -26,6 +26,6 @@ returns c =
       accepted = (c.in-Ok.ensures.0, c.in-Ok-decide.ensures.0);
       first = c.in-Ok.ensures.1;
       second = c.in-Ok-decide.ensures.1;
-      stated = stated c.args.first.now c.args.second.now _ long c.first-lower-lower.ensures c.first-crossed-crossed.ensures (ap (le_z (pos 0)) sum);
+      stated = stated c.args.first.now c.args.second.now _ long c.first_lower-lower.ensures c.first_crossed-crossed.ensures (ap (le_z (pos 0)) sum);
       rule_for_two = rule_for_two c.args.first.now c.args.second.now c.args.division c.args.mavs.now c.args.rule _ _ c.in-Ok.ensures.1 c.in-Ok-decide.ensures.1;
     }

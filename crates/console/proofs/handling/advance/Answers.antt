@@ -12,7 +12,7 @@ returns-in-Call g c =
     let rows₁ = rows_of g.P.Package c.turn.new.list in
     record {
       follows =
-          subst (λ r. Follows (on_sheet labeled s rows c.args.command) (inspecting (terms_on labeled s) s.phase) rows r.1 (standing labeled r.0) rows₁) (sym c.reply-of.ensures)
+          subst (λ r. Follows (on_sheet labeled s rows c.args.command) (inspecting (terms_on labeled s) s.phase) rows r.1 (standing labeled r.0) rows₁) (sym c.reply_of.ensures)
           (subst (λ k. Follows (on_sheet labeled s rows k) (inspecting (terms_on labeled s) s.phase) rows (reply_of c.turn.result).1 (standing labeled (reply_of c.turn.result).0) rows₁) (sym c.in-Call.is)
           (called labeled s rows rows₁ c.in-Call.call c.turn.result c.turn.ensures.turned));
       lends = c.turn.ensures.lends;

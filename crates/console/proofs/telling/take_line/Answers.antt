@@ -16,7 +16,7 @@ returns-in-Some g c =
     let rows₁ = rows_of g.P.Package c.handle-session.new.list in
     let old = c.args.out.now in
     let out = c.tell.new.out in
-    let wrote = subst (λ k. Writes 256 (told_by c.args.line k c.handle-session.result.1) old c.tell.result out) c.first-column.ensures c.tell.ensures in
+    let wrote = subst (λ k. Writes 256 (told_by c.args.line k c.handle-session.result.1) old c.tell.result out) c.first_column.ensures c.tell.ensures in
     let answers = subst (λ x. Answers (of_reading labeled c.args.line (first_column (words 1 c.args.text.now)) st rows x) st rows old c.tell.result out st₁ rows₁) (ap Ok (sym c.in-Some.is) ∙ c.in-Ok.ensures)
     (spoken c.args.line (first_column (words 1 c.args.text.now)) st st₁ rows rows₁ old out (effect labeled st rows c.in-Some.command) c.handle-session.result.1 c.tell.result c.if-out-lt256.false c.handle-session.ensures.follows wrote) in
     record {

@@ -9,7 +9,7 @@ use Rattle.console.proofs.transcribing.transcribe.Goals as goal
 pub returns-then-text-gt65536 : goal.returns-then-text-gt65536
 returns-then-text-gt65536 g c = record {
   transcript = long g.P.Package.labeled c.args.text.now _ (rows_of g.P.Package c.args.list.now) c.if-text-gt65536.true
-      (c.in-ok-extend-from-slice.ensures.items ∙ ap (λ l. l ++ codes "1 1 T 1\n") c.new-all.ensures.items);
+      (c.in_ok-extend_from_slice.ensures.items ∙ ap (λ l. l ++ codes "1 1 T 1\n") c.new-all.ensures.items);
   lends = refl;
   len = refl;
 }
@@ -18,22 +18,22 @@ pub loop-at-preserved : goal.loop-at-preserved
 loop-at-preserved g c =
     let labeled = g.P.Package.labeled in
     let st = standing labeled c.loop-at.session in
-    let st₁ = standing labeled c.take-line-next.result.0 in
+    let st₁ = standing labeled c.take_line-next.result.0 in
     let rows = rows_of g.P.Package c.loop-at.list in
-    let rows₁ = rows_of g.P.Package c.take-line-next.new.list in
+    let rows₁ = rows_of g.P.Package c.take_line-next.new.list in
     let text = c.args.text.now in
-    let here = take (c.loop-at.at + c.line-length.result - c.loop-at.at) (drop c.loop-at.at text) in (
+    let here = take (c.loop-at.at + c.line_length.result - c.loop-at.at) (drop c.loop-at.at text) in (
       omega arith,
       omega arith,
-      omega (arith, c.take-line-next.auto.out, c.loop-at.invariant.2),
+      omega (arith, c.take_line-next.auto.out, c.loop-at.invariant.2),
       turn labeled text c.loop-at.at c.loop-at.line st rows (vec_items c.loop-at.all)
           (λ out. Told labeled 1 (lines text) idle (rows_of g.P.Package c.args.list.now) out) c.loop-at.invariant.3
-          c.line-length.result c.in-Ok.n c.loop-at.out c.take-line-next.new.out _ st₁ rows₁
-          c.loop-at-test.true c.line-length.ensures.is
-          (subst (λ r. Answers (said labeled c.loop-at.line here st rows) st rows c.loop-at.out r c.take-line-next.new.out st₁ rows₁) c.in-Ok.is c.take-line-next.ensures.answers)
-          c.in-default-extend-from-slice.ensures.items,
-      c.take-line-next.ensures.lends ∙ c.loop-at.invariant.4,
-      c.take-line-next.ensures.len ∙ c.loop-at.invariant.5,
+          c.line_length.result c.in-Ok.n c.loop-at.out c.take_line-next.new.out _ st₁ rows₁
+          c.loop-at-test.true c.line_length.ensures.is
+          (subst (λ r. Answers (said labeled c.loop-at.line here st rows) st rows c.loop-at.out r c.take_line-next.new.out st₁ rows₁) c.in-Ok.is c.take_line-next.ensures.answers)
+          c.in_default-extend_from_slice.ensures.items,
+      c.take_line-next.ensures.lends ∙ c.loop-at.invariant.4,
+      c.take_line-next.ensures.len ∙ c.loop-at.invariant.5,
     )
 
 pub returns : goal.returns
@@ -46,7 +46,7 @@ returns g c =
           short labeled text _ rows₀ c.if-text-gt65536.false
           (done labeled text c.loop-at.at c.loop-at.line (standing labeled c.loop-at.session) (rows_of g.P.Package c.loop-at.list) (vec_items c.loop-at.all)
           (λ out. Told labeled 1 (lines text) idle rows₀ out) c.loop-at.invariant.3
-          c.in-Ok-finish.n c.loop-at.out c.finish.new.out _ c.loop-at.session refl c.loop-at-test.false c.in-Ok-finish.ensures.1 c.in-ok-extend-from-slice-2.ensures.items);
+          c.in-Ok-finish.n c.loop-at.out c.finish.new.out _ c.loop-at.session refl c.loop-at-test.false c.in-Ok-finish.ensures.1 c.in_ok-extend_from_slice-2.ensures.items);
       lends = c.loop-at.invariant.4;
       len = c.loop-at.invariant.5;
     }

@@ -12,7 +12,7 @@ use Rattle.decision.proofs.Spread.{spread_positive}
 use Rattle.decision.proofs.deciding.decide.Goals as goal
 
 pub measure-figures-requires : goal.measure-figures-requires
-measure-figures-requires c = let h = accepted (length c.args.mavs.now) c.args.rule c.args.errors.now (sym c.refusal-of.ensures ∙ c.in-default.is) in ((h.few, h.beside), λ k l. omega (arith, h.inside k l))
+measure-figures-requires c = let h = accepted (length c.args.mavs.now) c.args.rule c.args.errors.now (sym c.refusal_of.ensures ∙ c.in_default.is) in (record { errors_len_bound = (h.few, h.beside); small = λ k l. omega (arith, h.inside k l) })
 
 -- what `conclude` requires of the figures of an accepted sample
 module _ (division : ℕ) (mavs : List (ℕ × ℕ)) (rule : Rule) (es : List ℤ) (h : Accepted (length mavs) rule es) where
@@ -30,12 +30,12 @@ module _ (division : ℕ) (mavs : List (ℕ × ℕ)) (rule : Rule) (es : List �
 
 pub conclude-requires : goal.conclude-requires
 conclude-requires c =
-    let r = requires_is c.args.division c.args.mavs.now c.args.rule c.args.errors.now (accepted (length c.args.mavs.now) c.args.rule c.args.errors.now (sym c.refusal-of.ensures ∙ c.in-default.is)) c.measure-figures.result c.measure-figures.ensures.are in
+    let r = requires_is c.args.division c.args.mavs.now c.args.rule c.args.errors.now (accepted (length c.args.mavs.now) c.args.rule c.args.errors.now (sym c.refusal_of.ensures ∙ c.in_default.is)) c.measure-figures.result c.measure-figures.ensures.are in
     record { bounded = c.measure-figures.ensures.bounded; some = r.0; factor = r.1; average = r.2; positive = r.3 }
 
 pub returns : goal.returns
 returns c = (
-  sym c.refusal-of.ensures ∙ c.in-default.is,
-  decided c.args.division c.args.mavs.now c.args.rule c.args.errors.now (accepted (length c.args.mavs.now) c.args.rule c.args.errors.now (sym c.refusal-of.ensures ∙ c.in-default.is)) c.conclude.result
+  sym c.refusal_of.ensures ∙ c.in_default.is,
+  decided c.args.division c.args.mavs.now c.args.rule c.args.errors.now (accepted (length c.args.mavs.now) c.args.rule c.args.errors.now (sym c.refusal_of.ensures ∙ c.in_default.is)) c.conclude.result
       (subst (λ (f : Figures). Concluded c.args.rule f c.conclude.result) c.measure-figures.ensures.are c.conclude.ensures),
 )

@@ -42,28 +42,28 @@ module _ (f : Figures) (factor : ℕ) (z W M : ℤ) (b : Bounded f) (some : 1 �
       ∙ ap (lt_z (pos (factor * factor * f.sample) *ℤ z)) (to_z-of_z w64 _ scaled_fit)
       ∙ ap (λ x. lt_z (pos (factor * factor * f.sample) *ℤ x) (f.total *ℤ f.total *ℤ pos (1000000 * (f.sample - 1)))) e
 
-pub overflow-mul-factor : goal.overflow-mul-factor
-overflow-mul-factor c = record { fits = omega (arith, factor_size c.args.factor c.args.figures.sample c.requires.0.1.0 c.requires.0.1.1) }
+pub overflow_mul-factor : goal.overflow_mul-factor
+overflow_mul-factor c = record { fits = omega (arith, factor_size c.args.factor c.args.figures.sample c.requires.bounded.1.0 c.requires.bounded.1.1) }
 
-pub overflow-mul-factor-2 : goal.overflow-mul-factor-2
-overflow-mul-factor-2 c = record { fits = omega (arith, factor_size c.args.factor c.args.figures.sample c.requires.0.1.0 c.requires.0.1.1) }
+pub overflow_mul-factor-2 : goal.overflow_mul-factor-2
+overflow_mul-factor-2 c = record { fits = omega (arith, factor_size c.args.factor c.args.figures.sample c.requires.bounded.1.0 c.requires.bounded.1.1) }
 
-pub overflow-mul-result : goal.overflow-mul-result
-overflow-mul-result c =
-    let f = sum_fits c.args.figures.sample c.args.figures.total c.requires.0.0.sample c.requires.0.0.total in
-    subst (SFits w64) (sym (product w64 c.args.figures.total c.args.figures.total refl refl f f)) (square_fits c.args.figures.sample c.args.figures.total c.requires.0.0.sample c.requires.0.0.total)
+pub overflow_mul-result : goal.overflow_mul-result
+overflow_mul-result c =
+    let f = sum_fits c.args.figures.sample c.args.figures.total c.requires.bounded.0.sample c.requires.bounded.0.total in
+    subst (SFits w64) (sym (product w64 c.args.figures.total c.args.figures.total refl refl f f)) (square_fits c.args.figures.sample c.args.figures.total c.requires.bounded.0.sample c.requires.bounded.0.total)
 
-pub overflow-mul-result-2 : goal.overflow-mul-result-2
-overflow-mul-result-2 c =
+pub overflow_mul-result-2 : goal.overflow_mul-result-2
+overflow_mul-result-2 c =
     subst (SFits w64)
-    (sym (scaled_is c.args.figures c.args.factor c.args.varied c.from-weight.result c.from.result c.requires.0.0 c.requires.0.1.0 c.requires.0.1.1 c.requires.1.1 c.from-weight.ensures c.from.ensures))
-    (scaled_fit c.args.figures c.args.factor c.args.varied c.from-weight.result c.from.result c.requires.0.0 c.requires.0.1.0 c.requires.0.1.1 c.requires.1.1 c.from-weight.ensures c.from.ensures)
+    (sym (scaled_is c.args.figures c.args.factor c.args.varied c.from-weight.result c.from.result c.requires.bounded.0 c.requires.bounded.1.0 c.requires.bounded.1.1 c.requires.varied_value.1 c.from-weight.ensures c.from.ensures))
+    (scaled_fit c.args.figures c.args.factor c.args.varied c.from-weight.result c.from.result c.requires.bounded.0 c.requires.bounded.1.0 c.requires.bounded.1.1 c.requires.varied_value.1 c.from-weight.ensures c.from.ensures)
 
-pub overflow-mul-result-3 : goal.overflow-mul-result-3
-overflow-mul-result-3 c =
+pub overflow_mul-result-3 : goal.overflow_mul-result-3
+overflow_mul-result-3 c =
     subst (SFits w64)
-    (sym (weighted_is c.args.figures c.args.factor c.args.varied c.from-weight.result c.from.result c.requires.0.0 c.requires.0.1.0 c.requires.0.1.1 c.requires.1.1 c.from-weight.ensures c.from.ensures))
-    (weighted_fit c.args.figures c.args.factor c.args.varied c.from-weight.result c.from.result c.requires.0.0 c.requires.0.1.0 c.requires.0.1.1 c.requires.1.1 c.from-weight.ensures c.from.ensures)
+    (sym (weighted_is c.args.figures c.args.factor c.args.varied c.from-weight.result c.from.result c.requires.bounded.0 c.requires.bounded.1.0 c.requires.bounded.1.1 c.requires.varied_value.1 c.from-weight.ensures c.from.ensures))
+    (weighted_fit c.args.figures c.args.factor c.args.varied c.from-weight.result c.from.result c.requires.bounded.0 c.requires.bounded.1.0 c.requires.bounded.1.1 c.requires.varied_value.1 c.from-weight.ensures c.from.ensures)
 
 pub returns : goal.returns
-returns c = test_is c.args.figures c.args.factor c.args.varied c.from-weight.result c.from.result c.requires.0.0 c.requires.0.1.0 c.requires.0.1.1 c.requires.1.1 c.from-weight.ensures c.from.ensures c.requires.1.0
+returns c = test_is c.args.figures c.args.factor c.args.varied c.from-weight.result c.from.result c.requires.bounded.0 c.requires.bounded.1.0 c.requires.bounded.1.1 c.requires.varied_value.1 c.from-weight.ensures c.from.ensures c.requires.varied_value.0

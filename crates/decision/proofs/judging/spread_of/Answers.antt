@@ -18,18 +18,18 @@ module _ (N S Q : ℤ) (n : ℕ) (e : N ≡ pos n) (few : n ≤ 48) (hs : nat_ab
       let g = square_fits n S few hs in
       simp (times_is, square_is) (simp to_z-of_z)
 
-pub overflow-mul-result : goal.overflow-mul-result
-overflow-mul-result c =
+pub overflow_mul-result : goal.overflow_mul-result
+overflow_mul-result c =
     subst (SFits w64) (sym (times_is _ c.args.figures.total c.args.figures.squares _ c.from.ensures c.requires.sample c.requires.total c.requires.squares))
     (times_fits c.args.figures.sample c.args.figures.total c.requires.sample c.requires.total c.args.figures.squares c.requires.squares)
 
-pub overflow-mul-result-2 : goal.overflow-mul-result-2
-overflow-mul-result-2 c =
+pub overflow_mul-result-2 : goal.overflow_mul-result-2
+overflow_mul-result-2 c =
     subst (SFits w64) (sym (square_is _ c.args.figures.total c.args.figures.squares _ c.from.ensures c.requires.sample c.requires.total c.requires.squares))
     (square_fits c.args.figures.sample c.args.figures.total c.requires.sample c.requires.total)
 
-pub overflow-sub-result : goal.overflow-sub-result
-overflow-sub-result c =
+pub overflow_sub-result : goal.overflow_sub-result
+overflow_sub-result c =
     subst (SFits w64) (sym (spread_is _ c.args.figures.total c.args.figures.squares _ c.from.ensures c.requires.sample c.requires.total c.requires.squares))
     (spread_fits c.args.figures.sample c.args.figures.total c.requires.sample c.requires.total c.args.figures.squares c.requires.squares)
 

@@ -41,8 +41,8 @@ test_is E D B M e d b m p q r s h k l t =
     let z = crossed_fits e (pos d) (pos b) h k l in
     simp (p, q, r, s) (simp to_z-of_z (simp +ℤ_idl))
 
-pub overflow-mul-result-2 : goal.overflow-mul-result-2
-overflow-mul-result-2 c =
+pub overflow_mul-result-2 : goal.overflow_mul-result-2
+overflow_mul-result-2 c =
     let e : c.from.result ≡ c.args.error = search rules in
     let f : SFits w128 c.from.result = search rules in
     let g : SFits w128 c.from-2.result = search rules in

@@ -4,11 +4,11 @@ use Rattle.history.proofs.contest.contest.Goals as goal
 
 pub returns : goal.returns
 returns g c = record {
-  first = c.start-and-run-one.ensures.ends;
-  second = c.start-and-run-two.ensures.ends;
+  first = c.start_and_run-one.ensures.ends;
+  second = c.start_and_run-two.ensures.ends;
   rule = both_ruled
       (setup_of g.C.Category g.K.Kind g.P.Package c.args.first c.args.entries.now c.args.places.now)
       (setup_of g.D.Category g.L.Kind g.Q.Package c.args.second c.args.more.now c.args.others.now)
-      _ _ _ _ c.start-and-run-one.ensures.ends c.start-and-run-two.ensures.ends;
-  lends = (c.start-and-run-one.ensures.lends, c.start-and-run-two.ensures.lends);
+      _ _ _ _ c.start_and_run-one.ensures.ends c.start_and_run-two.ensures.ends;
+  lends = (c.start_and_run-one.ensures.lends, c.start_and_run-two.ensures.lends);
 }

@@ -8,8 +8,8 @@ units_range label division l d e =
     let high : label ≤ 999999 = grind arith in
     (omega (arith, mul-le-mul low d), omega (arith, mul-le-mul high e))
 
-pub returns-in-default : goal.returns-in-default
-returns-in-default g c =
-    let is : c.is-label.result ≡ true = search rules in
-    let r = units_range c.from.result c.from-2.result (subst (λ (n : ℕ). (leb 1 n && leb n 999999) ≡ true) (sym c.from.ensures) (sym c.is-label.ensures ∙ is)) (omega arith) (omega arith) in
-    absurd (c.in-default.ensures r)
+pub returns-in_default : goal.returns-in_default
+returns-in_default g c =
+    let is : c.is_label.result ≡ true = search rules in
+    let r = units_range c.from.result c.from-2.result (subst (λ (n : ℕ). (leb 1 n && leb n 999999) ≡ true) (sym c.from.ensures) (sym c.is_label.ensures ∙ is)) (omega arith) (omega arith) in
+    absurd (c.in_default.ensures r)

@@ -5,4 +5,4 @@ use Rattle.packages.proofs.list.empty_first.Goals as goal
 
 pub loop-i-preserved : goal.loop-i-preserved
 loop-i-preserved g c =
-    cc (c.put-at.ensures, c.loop-i.invariant, stored_empty g.P.Package.labeled, emptied_more c.loop-i.i (map g.P.Package.reading c.args.places.now))
+    cc (c.put_at.ensures, c.loop-i.invariant, stored_empty g.P.Package.labeled, emptied_more c.loop-i.i (map g.P.Package.reading c.args.places.now))

@@ -5,12 +5,12 @@ use Rattle.sheet.specs.Views.{rows_of}
 use Rattle.sheet.proofs.Tares.{not_opened, all_opened_more}
 use Rattle.sheet.proofs.settling.all_opened.Goals as goal
 
-pub returns-in-default : goal.returns-in-default
-returns-in-default g c =
+pub returns-in_default : goal.returns-in_default
+returns-in_default g c =
     let rows = rows_of g.P.Package c.args.list.now in
     let l : c.args.count ≤ length rows = simp length-map (omega arith) in
     let e = all_opened_more rows c.args.count c.loop-i.i c.at.result (omega arith) l c.at.ensures in
-    ap (λ b. b && all_opened (drop (c.loop-i.i + 1) (take c.args.count rows))) (sym (not_opened c.at.result c.in-default.not-Opened)) ∙ sym e ∙ c.loop-i.invariant
+    ap (λ b. b && all_opened (drop (c.loop-i.i + 1) (take c.args.count rows))) (sym (not_opened c.at.result c.in_default.not-Opened)) ∙ sym e ∙ c.loop-i.invariant
 
 pub loop-i-preserved : goal.loop-i-preserved
 loop-i-preserved g c =

@@ -14,10 +14,10 @@ loop-i-init g c =
     let error : Reading → ℤ = λ row. pos (gross_of row) -ℤ pos (tare_of row) -ℤ pos (label_by c.args.label row) in
     let tare : Reading → ℤ = λ row. pos (tare_of row) in
     let l : 1 ≤ length rows = simp length-map (omega arith) in
-    let f : SFits w64 c.net-error.result = search rules in
+    let f : SFits w64 c.net_error.result = search rules in
     let h : SFits w64 c.from.result = search rules in
-    let e = at_place error rows 0 _ _ _ (to_z-of_z w64 _ f) c.net-error.ensures.is c.at-first.ensures in
-    let t = at_place tare rows 0 _ _ _ (to_z-of_z w64 _ h) (c.from.ensures ∙ ap pos c.tare-of.ensures) c.at-first.ensures in (
+    let e = at_place error rows 0 _ _ _ (to_z-of_z w64 _ f) c.net_error.ensures.is c.at-first.ensures in
+    let t = at_place tare rows 0 _ _ _ (to_z-of_z w64 _ h) (c.from.ensures ∙ ap pos c.tare_of.ensures) c.at-first.ensures in (
       spans_first error rows _ _ l (c.of-errors.ensures.0 ∙ e) (c.of-errors.ensures.1 ∙ e),
       spans_first tare rows _ _ l (c.of-tares.ensures.0 ∙ t) (c.of-tares.ensures.1 ∙ t),
       omega (arith, ints),
@@ -30,14 +30,14 @@ loop-i-preserved g c =
     let error : Reading → ℤ = λ row. pos (gross_of row) -ℤ pos (tare_of row) -ℤ pos (label_by c.args.label row) in
     let tare : Reading → ℤ = λ row. pos (tare_of row) in
     let l : c.loop-i.i < length rows = simp length-map (omega arith) in
-    let f : SFits w64 c.net-error-in-loop-i.result = search rules in
+    let f : SFits w64 c.net_error-in-loop-i.result = search rules in
     let h : SFits w64 c.from-in-loop-i.result = search rules in
-    let e = at_place error rows c.loop-i.i c.at-reading.result _ _ (to_z-of_z w64 _ f) c.net-error-in-loop-i.ensures.is c.at-reading.ensures in
-    let t = at_place tare rows c.loop-i.i c.at-reading.result _ _ (to_z-of_z w64 _ h) (cc (c.from-in-loop-i.ensures, c.tare-of-in-loop-i.ensures)) c.at-reading.ensures in (
+    let e = at_place error rows c.loop-i.i c.at-reading.result _ _ (to_z-of_z w64 _ f) c.net_error-in-loop-i.ensures.is c.at-reading.ensures in
+    let t = at_place tare rows c.loop-i.i c.at-reading.result _ _ (to_z-of_z w64 _ h) (cc (c.from-in-loop-i.ensures, c.tare_of-in-loop-i.ensures)) c.at-reading.ensures in (
       spans_more error rows c.loop-i.i _ _ _ _ _ c.loop-i.invariant.0 l e c.with-errors.ensures.0 c.with-errors.ensures.1,
       spans_more tare rows c.loop-i.i _ _ _ _ _ c.loop-i.invariant.1 l t c.with-tares.ensures.0 c.with-tares.ensures.1,
-      size_min (2 ^ 33) _ _ _ _ c.with-errors.ensures.0 (to_z-of_z w64 _ f) c.loop-i.invariant.2 c.net-error-in-loop-i.ensures.bound,
-      size_max (2 ^ 33) _ _ _ _ c.with-errors.ensures.1 (to_z-of_z w64 _ f) c.loop-i.invariant.3 c.net-error-in-loop-i.ensures.bound,
+      size_min (2 ^ 33) _ _ _ _ c.with-errors.ensures.0 (to_z-of_z w64 _ f) c.loop-i.invariant.2 c.net_error-in-loop-i.ensures.bound,
+      size_max (2 ^ 33) _ _ _ _ c.with-errors.ensures.1 (to_z-of_z w64 _ f) c.loop-i.invariant.3 c.net_error-in-loop-i.ensures.bound,
     )
 
 pub returns : goal.returns

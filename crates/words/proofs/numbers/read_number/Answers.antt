@@ -5,21 +5,21 @@ use Rattle.words.specs.Numbers.{read_on}
 use Rattle.words.proofs.Digits.{digit_here, read_on_more, small, fits_number}
 use Rattle.words.proofs.numbers.read_number.Goals as goal
 
-pub overflow-mul-number : goal.overflow-mul-number
-overflow-mul-number c = omega (arith, small _ _ (sym c.if-not-all-digits.ensures) c.if-bytes-gt9.false c.loop-byte-test.true, c.loop-byte.invariant)
+pub overflow_mul-number : goal.overflow_mul-number
+overflow_mul-number c = omega (arith, small _ _ (sym c.if-not-all_digits.ensures) c.if-bytes-gt9.false c.loop-byte-test.true, c.loop-byte.invariant)
 
-pub overflow-sub-byte : goal.overflow-sub-byte
-overflow-sub-byte c = (digit_here _ _ (sym c.if-not-all-digits.ensures) c.loop-byte-test.true).0
+pub overflow_sub-byte : goal.overflow_sub-byte
+overflow_sub-byte c = (digit_here _ _ (sym c.if-not-all_digits.ensures) c.loop-byte-test.true).0
 
-pub overflow-add-number : goal.overflow-add-number
-overflow-add-number c =
-    omega (arith, small _ _ (sym c.if-not-all-digits.ensures) c.if-bytes-gt9.false c.loop-byte-test.true, c.loop-byte.invariant, digit_here _ _ (sym c.if-not-all-digits.ensures) c.loop-byte-test.true)
+pub overflow_add-number : goal.overflow_add-number
+overflow_add-number c =
+    omega (arith, small _ _ (sym c.if-not-all_digits.ensures) c.if-bytes-gt9.false c.loop-byte-test.true, c.loop-byte.invariant, digit_here _ _ (sym c.if-not-all_digits.ensures) c.loop-byte-test.true)
 
 pub loop-byte-preserved : goal.loop-byte-preserved
 loop-byte-preserved c = omega (arith, read_on_more _ _ c.loop-byte-test.true, c.loop-byte.invariant)
 
 pub returns : goal.returns
 returns c =
-    let some : 0 < length c.args.bytes.now = omega (arith, false-eqb _ 0 c.if-is-empty.ensures) in
+    let some : 0 < length c.args.bytes.now = omega (arith, false-eqb _ 0 c.if-is_empty.ensures) in
     ap Some (c.loop-byte.invariant ∙ ap (read_on 0) (take_all _ _ c.loop-byte-test.false))
-    ∙ sym (cond-true _ _ _ (fits_number _ (sym c.if-not-all-digits.ensures) some c.if-bytes-gt9.false c.else-bytes-eq48.either))
+    ∙ sym (cond-true _ _ _ (fits_number _ (sym c.if-not-all_digits.ensures) some c.if-bytes-gt9.false c.else-bytes-eq48.either))

@@ -8,7 +8,7 @@ returns-in-Some c =
     let apart = verb_apart c.args.bytes.now c.in-Some.verb e in
     (refl, e, apart.0, apart.1)
 
-pub returns-in-Some-read-number : goal.returns-in-Some-read-number
-returns-in-Some-read-number c =
-    let e = sym c.in-Some-read-number.ensures in
-    (refl, sym c.in-default.ensures, e, number_apart c.args.bytes.now c.in-Some-read-number.number e)
+pub returns-in-Some-read_number : goal.returns-in-Some-read_number
+returns-in-Some-read_number c =
+    let e = sym c.in-Some-read_number.ensures in
+    (refl, sym c.in_default.ensures, e, number_apart c.args.bytes.now c.in-Some-read_number.number e)

@@ -24,8 +24,8 @@ before t c =
       | else-n-lt10 w ↦ record {
         ds = decimal (c.args.n / 10);
         whole = decimal_step c.args.n w.if-n-lt10.false (omega arith);
-        far = sym (w.last-is ∙ w.write-digits-last.ensures.end);
-        is = w.out-is ∙ w.write-digits-last.ensures.bytes ∙ ap (λ k. take c.args.at c.args.out.now ++ (decimal (c.args.n / 10) ++ drop k c.args.out.now)) (sym w.last-is);
+        far = sym (w.last-is ∙ w.write_digits-last.ensures.end);
+        is = w.out-is ∙ w.write_digits-last.ensures.bytes ∙ ap (λ k. take c.args.at c.args.out.now ++ (decimal (c.args.n / 10) ++ drop k c.args.out.now)) (sym w.last-is);
       }
     ]
 
@@ -34,16 +34,16 @@ ends t c =
     let b = before t c in
     omega (arith, ap length b.whole ∙ length_push b.ds (48 + c.args.n % 10), b.far)
 
-pub write-digits-last-requires : goal.write-digits-last-requires
-write-digits-last-requires t c =
+pub write_digits-last-requires : goal.write_digits-last-requires
+write_digits-last-requires t c =
     let e = ap length (decimal_step c.args.n c.if-n-lt10.false (omega arith)) ∙ length_push _ _ in
     (omega arith, omega arith)
 
 pub bounds-out-last : goal.bounds-out-last
 bounds-out-last t c = omega (arith, ends t c, c.requires, c.if-n-lt10.auto.out)
 
-pub overflow-add-result : goal.overflow-add-result
-overflow-add-result t c = omega (arith, ends t (goal.at.overflow-add-result t c).Joined-n-lt10, c.requires)
+pub overflow_add-result : goal.overflow_add-result
+overflow_add-result t c = omega (arith, ends t (goal.at.overflow_add-result t c).Joined-n-lt10, c.requires)
 
 pub returns : goal.returns
 returns t c =

@@ -7,6 +7,6 @@ pub returns : goal.returns
 returns c = record {
   short = omega (arith, length-decimal-le 10 c.from.result (omega arith) (omega arith) (omega arith));
   on = λ old front w.
-      same_text (c.put-number.ensures.on _ _ (c.put-space.ensures.on old front w))
+      same_text (c.put_number.ensures.on _ _ (c.put-space.ensures.on old front w))
       (append_assoc front (32 ∷ []) (decimal c.from.result) ∙ ap (λ n. front ++ 32 ∷ decimal n) c.from.ensures);
 }

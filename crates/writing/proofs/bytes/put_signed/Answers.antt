@@ -13,7 +13,7 @@ pub returns-then-n-lt0 : goal.returns-then-n-lt0
 returns-then-n-lt0 c = record {
   short = omega arith;
   on = λ old front w.
-      same_text (c.put-number.ensures.on _ _ (c.put-minus.ensures.on old front w))
-      (append_assoc front (45 ∷ []) (decimal c.unsigned-abs.result)
-      ∙ ap (λ l. front ++ l) (ap (λ n. 45 ∷ decimal n) c.unsigned-abs.ensures.value ∙ below _ c.if-n-lt0.true ∙ ap signed_decimal (to_z-of_z c.ranges.n)));
+      same_text (c.put_number.ensures.on _ _ (c.put-minus.ensures.on old front w))
+      (append_assoc front (45 ∷ []) (decimal c.unsigned_abs.result)
+      ∙ ap (λ l. front ++ l) (ap (λ n. 45 ∷ decimal n) c.unsigned_abs.ensures.value ∙ below _ c.if-n-lt0.true ∙ ap signed_decimal (to_z-of_z c.ranges.n)));
 }

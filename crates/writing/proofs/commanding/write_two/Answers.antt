@@ -7,5 +7,5 @@ use Rattle.writing.proofs.commanding.write_two.Goals as goal
 pub returns : goal.returns
 returns c =
     same_text
-    (c.put.ensures.on _ _ (c.next-number-end-2.ensures.on _ _ (c.next-number-end.ensures.on _ _ (c.put-end.ensures.on _ [] (nothing _)))))
+    (c.put.ensures.on _ _ (c.next_number-end-2.ensures.on _ _ (c.next_number-end.ensures.on _ _ (c.put-end.ensures.on _ [] (nothing _)))))
     (two_is c.args.verb.now _ _)

@@ -16,6 +16,6 @@ pub returns : goal.returns
 returns c = (
   omega arith,
   same_text
-      (c.put.ensures.on _ _ (c.put-number-end-3.ensures.on _ _ (c.put-end-4.ensures.on _ _ (c.put-end-3.ensures.on _ _ (c.put-end-2.ensures.on _ _ (c.put-number-end-2.ensures.on _ _ (c.put-end.ensures.on _ _ (c.put-number-end.ensures.on _ [] (nothing _)))))))))
+      (c.put.ensures.on _ _ (c.put_number-end-3.ensures.on _ _ (c.put-end-4.ensures.on _ _ (c.put-end-3.ensures.on _ _ (c.put-end-2.ensures.on _ _ (c.put_number-end-2.ensures.on _ _ (c.put-end.ensures.on _ _ (c.put_number-end.ensures.on _ [] (nothing _)))))))))
       (joins c.args.line c.args.column c.args.letter _ _ c.from.ensures),
 )

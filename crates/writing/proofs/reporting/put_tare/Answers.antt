@@ -10,6 +10,6 @@ pub returns : goal.returns
 returns c = record {
   short = omega arith;
   on = λ old front w.
-      same_text (c.put.ensures.on _ _ (c.next-number-end-2.ensures.on _ _ (c.next-number-end.ensures.on _ _ (c.put-end.ensures.on old front w))))
+      same_text (c.put.ensures.on _ _ (c.next_number-end-2.ensures.on _ _ (c.next_number-end.ensures.on _ _ (c.put-end.ensures.on old front w))))
       (joins front _ _);
 }

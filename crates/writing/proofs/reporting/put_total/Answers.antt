@@ -7,6 +7,6 @@ pub returns : goal.returns
 returns c = record {
   short = omega arith;
   on = λ old front w.
-      same_text (c.put.ensures.on _ _ (c.put-signed-end.ensures.on _ _ (c.put-end.ensures.on old front w)))
+      same_text (c.put.ensures.on _ _ (c.put_signed-end.ensures.on _ _ (c.put-end.ensures.on old front w)))
       (line_after front (codes "total ") _ ∙ ap (λ z. front ++ (codes "total " ++ (signed_decimal z ++ 10 ∷ []))) (to_z-of_z c.ranges.total));
 }

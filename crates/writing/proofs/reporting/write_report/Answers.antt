@@ -13,10 +13,10 @@ returns c =
     let fits : SFits w64 c.decision-decision.result.figures.total = search rules in (
       omega arith,
       same_text
-          (c.put-verdict.ensures _ _ (c.put-line-end-5.ensures.on _ _ (c.put-line-end-4.ensures.on _ _ (c.put-line-end-3.ensures.on _ _ (c.put-line-end-2.ensures.on _ _ (c.put-total-end.ensures.on _ _ (c.put-tare-end.ensures.on _ _ (c.put-line-end.ensures.on _ [] (nothing _)))))))))
+          (c.put_verdict.ensures _ _ (c.put_line-end-5.ensures.on _ _ (c.put_line-end-4.ensures.on _ _ (c.put_line-end-3.ensures.on _ _ (c.put_line-end-2.ensures.on _ _ (c.put_total-end.ensures.on _ _ (c.put_tare-end.ensures.on _ _ (c.put_line-end.ensures.on _ [] (nothing _)))))))))
           (λ i.
           line (codes "sample" ∷ decimal ((c.from.ensures ∙ ap (λ (d : Decision). d.figures.sample) is) i) ∷ [])
-          ++ line (codes "tare" ∷ decimal (c.tare-total.ensures i) ∷ decimal (c.average-tare.ensures i) ∷ [])
+          ++ line (codes "tare" ∷ decimal (c.tare_total.ensures i) ∷ decimal (c.average_tare.ensures i) ∷ [])
           ++ line (codes "total" ∷ signed_decimal ((to_z-of_z fits ∙ ap (λ (d : Decision). d.figures.total) is) i) ∷ [])
           ++ line (codes "short" ∷ decimal ((c.from-2.ensures ∙ ap (λ (d : Decision). d.figures.short) is) i) ∷ [])
           ++ line (codes "unreasonable" ∷ decimal ((c.from-3.ensures ∙ ap (λ (d : Decision). d.figures.unreasonable) is) i) ∷ [])

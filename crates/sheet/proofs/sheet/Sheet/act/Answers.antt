@@ -20,11 +20,11 @@ returns-then-len-self g c =
       len = refl;
     }
 
-pub returns-then-not-is-placed : goal.returns-then-not-is-placed
-returns-then-not-is-placed g c =
+pub returns-then-not-is_placed : goal.returns-then-not-is_placed
+returns-then-not-is_placed g c =
     let rows = rows_of g.P.Package c.args.list.now in
     let enough : ltb (length rows) c.args.self.now.plan.sample ≡ false = le-ltb (length rows) c.args.self.now.plan.sample (simp length-map (omega arith)) in
-    let at : placed c.args.self.now.plan.sample (place_of c.args.call) ≡ false = ap (placed c.args.self.now.plan.sample) (sym c.place-of.ensures) ∙ sym c.is-placed.ensures ∙ c.if-not-is-placed.true in
+    let at : placed c.args.self.now.plan.sample (place_of c.args.call) ≡ false = ap (placed c.args.self.now.plan.sample) (sym c.place_of.ensures) ∙ sym c.is_placed.ensures ∙ c.if-not-is_placed.true in
     record {
       step = not_placed (terms_of g.C.Category g.K.Kind g.P.Package c.args.self.now) c.args.self.now.phase rows c.args.call enough at;
       kept = record { category = refl; kind = refl; lot = refl; plan = refl };
@@ -32,12 +32,12 @@ returns-then-not-is-placed g c =
       len = refl;
     }
 
-pub returns-then-not-is-weighable : goal.returns-then-not-is-weighable
-returns-then-not-is-weighable g c =
+pub returns-then-not-is_weighable : goal.returns-then-not-is_weighable
+returns-then-not-is_weighable g c =
     let rows = rows_of g.P.Package c.args.list.now in
     let enough : ltb (length rows) c.args.self.now.plan.sample ≡ false = le-ltb (length rows) c.args.self.now.plan.sample (simp length-map (omega arith)) in
-    let at : placed c.args.self.now.plan.sample (place_of c.args.call) ≡ true = ap (placed c.args.self.now.plan.sample) (sym c.place-of.ensures) ∙ sym c.is-placed.ensures ∙ c.if-not-is-placed.false in
-    let fits : weighable (not (is_some c.args.self.now.lot.label)) c.args.call ≡ false = ap (λ (r : Bool). weighable r c.args.call) (random_is _ _ c.is-none.ensures) ∙ sym c.is-weighable.ensures ∙ c.if-not-is-weighable.true in
+    let at : placed c.args.self.now.plan.sample (place_of c.args.call) ≡ true = ap (placed c.args.self.now.plan.sample) (sym c.place_of.ensures) ∙ sym c.is_placed.ensures ∙ c.if-not-is_placed.false in
+    let fits : weighable (not (is_some c.args.self.now.lot.label)) c.args.call ≡ false = ap (λ (r : Bool). weighable r c.args.call) (random_is _ _ c.is_none.ensures) ∙ sym c.is_weighable.ensures ∙ c.if-not-is_weighable.true in
     record {
       step = not_weighable (terms_of g.C.Category g.K.Kind g.P.Package c.args.self.now) c.args.self.now.phase rows c.args.call enough at fits;
       kept = record { category = refl; kind = refl; lot = refl; plan = refl };
@@ -49,8 +49,8 @@ pub returns : goal.returns
 returns g c =
     let rows = rows_of g.P.Package c.args.list.now in
     let enough : ltb (length rows) c.args.self.now.plan.sample ≡ false = le-ltb (length rows) c.args.self.now.plan.sample (simp length-map (omega arith)) in
-    let at : placed c.args.self.now.plan.sample (place_of c.args.call) ≡ true = ap (placed c.args.self.now.plan.sample) (sym c.place-of.ensures) ∙ sym c.is-placed.ensures ∙ c.if-not-is-placed.false in
-    let fits : weighable (not (is_some c.args.self.now.lot.label)) c.args.call ≡ true = ap (λ (r : Bool). weighable r c.args.call) (random_is _ _ c.is-none.ensures) ∙ sym c.is-weighable.ensures ∙ c.if-not-is-weighable.false in
+    let at : placed c.args.self.now.plan.sample (place_of c.args.call) ≡ true = ap (placed c.args.self.now.plan.sample) (sym c.place_of.ensures) ∙ sym c.is_placed.ensures ∙ c.if-not-is_placed.false in
+    let fits : weighable (not (is_some c.args.self.now.lot.label)) c.args.call ≡ true = ap (λ (r : Bool). weighable r c.args.call) (random_is _ _ c.is_none.ensures) ∙ sym c.is_weighable.ensures ∙ c.if-not-is_weighable.false in
     record {
       step = performs (terms_of g.C.Category g.K.Kind g.P.Package c.args.self.now) c.args.self.now.phase rows c.args.call _ _ _ enough at fits c.perform.ensures.step;
       kept = c.perform.ensures.kept;

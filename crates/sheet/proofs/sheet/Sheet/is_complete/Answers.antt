@@ -18,8 +18,8 @@ returns-then-not-complete g c =
     elim c.match-at.branch [
       | in-Empty w ↦ unweighed_is t c.at.result row c.match-at.complete false c.at.ensures w.in-Empty.is w.complete-is c.if-not-complete.true
       | in-Weighed2 w ↦
-          weighed_is t c.at.result row sheet.lot.label w.in-Weighed.label c.is-none-random.result w.is-label-complete.result c.match-at.complete false
-          refl c.is-none-random.ensures c.at.ensures w.in-Weighed.is w.is-label-complete.ensures w.complete-is c.if-not-complete.true
+          weighed_is t c.at.result row sheet.lot.label w.in-Weighed.label c.is_none-random.result w.is_label-complete.result c.match-at.complete false
+          refl c.is_none-random.ensures c.at.ensures w.in-Weighed.is w.is_label-complete.ensures w.complete-is c.if-not-complete.true
     ] in
     incomplete t rows sheet.plan.sample few c.loop-i.i (all_complete t (take sheet.plan.sample rows)) c.loop-i.invariant c.loop-i-test.true no
 
@@ -34,8 +34,8 @@ loop-i-preserved g c =
     elim c.match-at.branch [
       | in-Empty w ↦ unweighed_is t c.at.result row c.match-at.complete true c.at.ensures w.in-Empty.is w.complete-is c.if-not-complete.false
       | in-Weighed2 w ↦
-          weighed_is t c.at.result row sheet.lot.label w.in-Weighed.label c.is-none-random.result w.is-label-complete.result c.match-at.complete true
-          refl c.is-none-random.ensures c.at.ensures w.in-Weighed.is w.is-label-complete.ensures w.complete-is c.if-not-complete.false
+          weighed_is t c.at.result row sheet.lot.label w.in-Weighed.label c.is_none-random.result w.is_label-complete.result c.match-at.complete true
+          refl c.is_none-random.ensures c.at.ensures w.in-Weighed.is w.is_label-complete.ensures w.complete-is c.if-not-complete.false
     ] in
     complete_more t rows sheet.plan.sample few c.loop-i.i (all_complete t (take sheet.plan.sample rows)) c.loop-i.invariant c.loop-i-test.true yes
 

@@ -13,28 +13,28 @@ returns-then-len-sample g c =
     let few : length rows < sheet.plan.sample = simp length-map (omega (arith, c.len.ensures, c.if-len-sample.true)) in
     few_places (terms_of g.C.Category g.K.Kind g.P.Package sheet) sheet.phase rows few
 
-pub returns-in-default : goal.returns-in-default
-returns-in-default g c =
+pub returns-in_default : goal.returns-in_default
+returns-in_default g c =
     let sheet = c.args.self.now in
     let rows = rows_of g.P.Package c.args.list.now in
     let many : sheet.plan.sample ≤ length rows = simp length-map (omega (arith, c.len.ensures, c.if-len-sample.false)) in
-    unsettled (terms_of g.C.Category g.K.Kind g.P.Package sheet) sheet.phase rows many c.in-default.is
+    unsettled (terms_of g.C.Category g.K.Kind g.P.Package sheet) sheet.phase rows many c.in_default.is
 
-pub returns-then-not-is-complete : goal.returns-then-not-is-complete
-returns-then-not-is-complete g c =
+pub returns-then-not-is_complete : goal.returns-then-not-is_complete
+returns-then-not-is_complete g c =
     let sheet = c.args.self.now in
     let rows = rows_of g.P.Package c.args.list.now in
     let many : sheet.plan.sample ≤ length rows = simp length-map (omega (arith, c.len.ensures, c.if-len-sample.false)) in
     unweighed (terms_of g.C.Category g.K.Kind g.P.Package sheet) sheet.phase rows c.in-Settled.total c.in-Settled.average many c.in-Settled.is
-    c.is-complete.result c.is-complete.ensures c.if-not-is-complete.true
+    c.is_complete.result c.is_complete.ensures c.if-not-is_complete.true
 
-pub returns-in-default-errors : goal.returns-in-default-errors
-returns-in-default-errors g c =
+pub returns-in_default-errors : goal.returns-in_default-errors
+returns-in_default-errors g c =
     let sheet = c.args.self.now in
     let rows = rows_of g.P.Package c.args.list.now in
     let many : sheet.plan.sample ≤ length rows = simp length-map (omega (arith, c.len.ensures, c.if-len-sample.false)) in
     error_range (terms_of g.C.Category g.K.Kind g.P.Package sheet) sheet.phase rows c.in-Settled.total c.in-Settled.average many c.in-Settled.is
-    c.is-complete.result c.is-complete.ensures c.if-not-is-complete.false c.in-default-errors.ensures
+    c.is_complete.result c.is_complete.ensures c.if-not-is_complete.false c.in_default-errors.ensures
 
 pub returns-in-Ok : goal.returns-in-Ok
 returns-in-Ok g c =
@@ -42,7 +42,7 @@ returns-in-Ok g c =
     let rows = rows_of g.P.Package c.args.list.now in
     let t = terms_of g.C.Category g.K.Kind g.P.Package sheet in
     let many : sheet.plan.sample ≤ length rows = simp length-map (omega (arith, c.len.ensures, c.if-len-sample.false)) in (
-      passes t sheet.phase rows c.in-Settled.total c.in-Settled.average many c.in-Settled.is c.is-complete.result c.is-complete.ensures c.if-not-is-complete.false c.in-Some.ensures.1,
+      passes t sheet.phase rows c.in-Settled.total c.in-Settled.average many c.in-Settled.is c.is_complete.result c.is_complete.ensures c.if-not-is_complete.false c.in-Some.ensures.1,
       record {
         settled = c.in-Settled.is;
         rule = refl;

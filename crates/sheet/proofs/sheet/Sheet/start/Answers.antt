@@ -3,8 +3,8 @@ use Rattle.lots.specs.Lots.{planned}
 use Rattle.sheet.proofs.Taken.{planned_sound, started, new_sheet}
 use Rattle.sheet.proofs.sheet.Sheet.start.Goals as goal
 
-pub invariant-of-result : goal.invariant-of-result
-invariant-of-result g c =
+pub invariant_of-result : goal.invariant_of-result
+invariant_of-result g c =
     (planned_sound (g.C.Category.meaning c.args.category) (g.K.Kind.meaning c.args.kind) c.args.lot c.in-Ok.plan (g.met.C.Category.bounds c.args.category) (sym c.in-Ok.ensures), tt)
 
 pub returns : goal.returns

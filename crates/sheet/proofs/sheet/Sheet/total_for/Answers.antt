@@ -48,6 +48,6 @@ returns g c =
       | in-None w ↦ random _ _ _ w.in-None.is w.units-is
     ] in
     total_is (terms_of g.C.Category g.K.Kind g.P.Package sheet) (rows_of g.P.Package c.args.list.now) c.args.initial
-    c.ranges-errors.result.0 c.ranges-errors.result.1 c.tare-total.result
+    c.ranges-errors.result.0 c.ranges-errors.result.1 c.tare_total.result
     c.requires.0 c.if-initial-eq0.false c.if-tares-eq0.false c.ranges-errors.ensures.errors c.ranges-errors.ensures.tares
-    (asked (g.C.Category.meaning sheet.category) sheet.lot.size _ _ _ _ _ _ c.tare-total.ensures c.word.ensures u)
+    (asked (g.C.Category.meaning sheet.category) sheet.lot.size _ _ _ _ _ _ c.tare_total.ensures c.word.ensures u)
