@@ -15,9 +15,9 @@ loop-i-preserved g c =
     let rows = rows_of g.P.Package c.args.list.now in
     let t = terms_of g.C.Category g.K.Kind g.P.Package sheet in
     let row = get_or rows c.loop-i.i Empty in
-    let few : sheet.plan.sample ≤ length rows = simp length-map c.requires.0 in
+    let few : sheet.plan.sample ≤ length rows = simp length-map c.requires.sample_in_bounds in
     let known = facts sheet.lot sheet.plan sheet.sound in
-    let whole = complete_at t rows sheet.plan.sample c.loop-i.i c.requires.1 c.loop-i-test.true few in
+    let whole = complete_at t rows sheet.plan.sample c.loop-i.i c.requires.list_value c.loop-i-test.true few in
     let mav : c.package_mav.result ≡ Some (t.mav (label_of t row)) =
     mav_at t (g.K.Kind.meaning sheet.kind) sheet.lot.label c.at.result row sheet.lot.division c.label_of-label.result c.package_mav.result
     refl known.labeled whole known.division_some known.division_few c.at.ensures c.label_of-label.ensures c.package_mav.ensures in

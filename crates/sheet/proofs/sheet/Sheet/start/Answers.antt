@@ -5,7 +5,7 @@ use Rattle.sheet.proofs.sheet.Sheet.start.Goals as goal
 
 pub invariant_of-result : goal.invariant_of-result
 invariant_of-result g c =
-    (planned_sound (g.C.Category.meaning c.args.category) (g.K.Kind.meaning c.args.kind) c.args.lot c.in-Ok.plan (g.met.C.Category.bounds c.args.category) (sym c.in-Ok.ensures), tt)
+    record { sound = planned_sound (g.C.Category.meaning c.args.category) (g.K.Kind.meaning c.args.kind) c.args.lot c.in-Ok.plan (g.met.C.Category.bounds c.args.category) (sym c.in-Ok.ensures) }
 
 pub returns : goal.returns
 returns g c =

@@ -36,7 +36,7 @@ asked meaning size w w' u u' ratio r e p q = cc
 pub ranges-errors-requires : goal.ranges-errors-requires
 ranges-errors-requires g c =
     let sheet = c.args.self.now in
-    let m = initial_most sheet.lot sheet.plan _ c.args.initial sheet.sound c.requires.0 in
+    let m = initial_most sheet.lot sheet.plan _ c.args.initial sheet.sound c.requires.initial_value in
     (omega arith, omega arith)
 
 pub returns : goal.returns
@@ -49,5 +49,5 @@ returns g c =
     ] in
     total_is (terms_of g.C.Category g.K.Kind g.P.Package sheet) (rows_of g.P.Package c.args.list.now) c.args.initial
     c.ranges-errors.result.0 c.ranges-errors.result.1 c.tare_total.result
-    c.requires.0 c.if-initial-eq0.false c.if-tares-eq0.false c.ranges-errors.ensures.errors c.ranges-errors.ensures.tares
+    c.requires.initial_value c.if-initial-eq0.false c.if-tares-eq0.false c.ranges-errors.ensures.errors c.ranges-errors.ensures.tares
     (asked (g.C.Category.meaning sheet.category) sheet.lot.size _ _ _ _ _ _ c.tare_total.ensures c.word.ensures u)
