@@ -46,7 +46,7 @@ returns g c =
           short labeled text _ rows₀ c.if-text-gt65536.false
           (done labeled text c.loop-at.at c.loop-at.line (standing labeled c.loop-at.session) (rows_of g.P.Package c.loop-at.list) (vec_items c.loop-at.all)
           (λ out. Told labeled 1 (lines text) idle rows₀ out) c.loop-at.invariant.3
-          c.in-Ok-finish.n c.loop-at.out c.finish.new.out _ c.loop-at.session refl c.loop-at-test.false c.in-Ok-finish.ensures.1 c.in_ok-extend_from_slice-2.ensures.items);
+          c.in-Ok-finish.n c.loop-at.out c.finish.new.out _ c.loop-at.session refl c.loop-at-test.false c.in-Ok-finish.ensures.1 c.in_ok-extend_from_slice-in-Ok-finish.ensures.items);
       lends = c.loop-at.invariant.4;
       len = c.loop-at.invariant.5;
     }
