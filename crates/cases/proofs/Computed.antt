@@ -1,5 +1,5 @@
 -- The worked cases compute; a deviation is the largest whole number by the square above it.
-use Rattle.std.proofs.Common.{◌≡◌, ℕ, ◌+◌, ◌-◌, ◌*◌, ◌<◌, ◌≤◌, refl, ⊎_elim, le_refl, mul-le-mul, arith, lit<, lit≤}
+use Rattle.std.proofs.Common.{ℕ, ◌+◌, ◌-◌, ◌*◌, ◌<◌, ◌≤◌, refl, ⊎_elim, le_refl, mul-le-mul, arith, lit<, lit≤}
 use Rattle.std.proofs.lemmas.Bool.{cases_lt}
 use Rattle.tables.specs.Rows.{reached}
 use Rattle.decision.specs.Verdicts.{Largest}

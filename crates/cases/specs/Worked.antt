@@ -1,11 +1,10 @@
 -- Worked cases of the rules.
-use Rattle.std.specs.Prelude.{◌≡◌, ℕ, Bool, true, false, List, [], ◌∷◌, replicate, ℤ, pos, negsuc, Some, None, Option}
+use Rattle.std.specs.Prelude.{◌≡◌, ℕ, Bool, true, false, List, [], ◌∷◌, replicate, ℤ, pos, negsuc, Some, None}
 use Rattle.std.specs.Option.{option_map}
 use Rattle.categories.specs.declared.handbook.HandbookCategory.TheVariants.{A, B, C}
 use Rattle.categories.specs.Handbook as categories
 use Rattle.decision.specs.declared.outcome.Figures.{Figures}
-use Rattle.decision.specs.declared.outcome.Verdict.{Verdict}
-use Rattle.decision.specs.declared.outcome.Verdict.TheVariants.{Mav, Plan, Over, Average, Within}
+use Rattle.decision.specs.declared.outcome.Verdict.TheVariants.{Plan, Over, Average, Within}
 use Rattle.decision.specs.declared.rule.Counted.TheVariants.{Unreasonable, Short}
 use Rattle.decision.specs.declared.rule.Rule.{Rule}
 use Rattle.decision.specs.Sample.{figures, is_unreasonable}

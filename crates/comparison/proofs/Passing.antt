@@ -1,5 +1,5 @@
 -- The rule for two lists.
-use Rattle.std.proofs.Common.{◌≡◌, ℕ, suc, ◌+◌, ◌-◌, ◌*◌, ◌<◌, ◌≤◌, Bool, true, false, cond, not, ltb, List, [], ◌∷◌, length, replicate, ℤ, pos, negsuc, ◌+ℤ◌, ◌-ℤ◌, ◌*ℤ◌, neg_ℤ, ◌≤ℤ◌, ◌<ℤ◌, sym, refl, ap, ◌∙◌, subst, suc-le-suc, mul-le-mul, arith}
+use Rattle.std.proofs.Common.{◌≡◌, ℕ, suc, ◌+◌, ◌-◌, ◌*◌, ◌<◌, ◌≤◌, Bool, true, false, cond, ltb, List, [], ◌∷◌, length, replicate, ℤ, pos, negsuc, ◌*ℤ◌, neg_ℤ, ◌≤ℤ◌, sym, refl, ap, ◌∙◌, subst, suc-le-suc, mul-le-mul, arith}
 use lib.Signed.{lt_z, le_z}
 use borrow.Author.Differences.{ints, up, down}
 use Rattle.std.proofs.lemmas.Bool.{le-ltb, ltb-false}
@@ -8,9 +8,9 @@ use Rattle.decision.proofs.Spread.{add_le, spread_pairs}
 use Rattle.decision.specs.declared.rule.Counted.{Counted}
 use Rattle.decision.specs.declared.rule.Counted.TheVariants.{Unreasonable, Short}
 use Rattle.decision.specs.declared.rule.Rule.{Rule}
-use Rattle.decision.specs.Sample.{total, squares, pairs, is_short, is_unreasonable, short, unreasonable, figures}
-use Rattle.decision.specs.Verdicts.{chosen, counted, falls, first, verdict, Passes, spread}
-use Rattle.comparison.specs.Laws.{Follows, TwoLists, HeavierFails, OrderNeeded}
+use Rattle.decision.specs.Sample.{total, pairs, is_short, is_unreasonable, short, unreasonable, figures}
+use Rattle.decision.specs.Verdicts.{chosen, counted, falls, first, Passes, spread}
+use Rattle.comparison.specs.Laws.{Follows, TwoLists, OrderNeeded}
 use Rattle.comparison.specs.Rises.{at, NoneLower, OrderKept}
 use Rattle.comparison.proofs.Wider.{sq_up, wider}
 

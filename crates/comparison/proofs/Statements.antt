@@ -1,19 +1,17 @@
 -- The premises as they are stated, and the rule for two lists at two decisions.
-use Rattle.std.proofs.Common.{◌≡◌, ℕ, ◌<◌, ◌≤◌, Bool, true, List, length, ℤ, pos, ◌≤ℤ◌, ◌<ℤ◌, Some, None, Decides, Option, sym, refl, ap, ◌∙◌, subst, arith}
+use Rattle.std.proofs.Common.{◌≡◌, ℕ, ◌≤◌, List, length, ℤ, pos, ◌≤ℤ◌, Some, None, Decides, Option, sym, refl, subst, arith}
 use lib.Signed.{le_z}
 use borrow.Author.Differences.{ints}
 use Rattle.std.proofs.lemmas.Int.{by_lt_z}
 use Rattle.decision.specs.declared.outcome.Decision.{Decision}
 use Rattle.decision.specs.declared.outcome.Figures.{Figures}
-use Rattle.decision.specs.declared.outcome.Verdict.{Verdict}
 use Rattle.decision.specs.declared.rule.Rule.{Rule}
 use Rattle.decision.specs.Answer.{Decided}
-use Rattle.decision.specs.Sample.{total, short, unreasonable, figures, pairs}
+use Rattle.decision.specs.Sample.{total, figures, pairs}
 use Rattle.decision.specs.Verdicts.{counted, verdict, Passes, spread}
 use Rattle.comparison.specs.declared.premises.Premises.{Premises}
 use Rattle.comparison.specs.Compared.{Stated, RuleForTwo}
-use Rattle.comparison.specs.Laws.{Follows}
-use Rattle.comparison.specs.Rises.{at, rise, NoneLower, OrderKept, Lower, Crosses, Crossed}
+use Rattle.comparison.specs.Rises.{rise, NoneLower, OrderKept, Lower, Crossed}
 use Rattle.comparison.proofs.Passing.{follows}
 use Rattle.comparison.proofs.Wider.{wider}
 use Rattle.decision.proofs.Spread.{spread_pairs}

@@ -1,13 +1,13 @@
 -- Rises that keep the order never narrow the spread.
-use Rattle.std.proofs.Common.{◌≡◌, ℕ, suc, ◌+◌, ◌<◌, ◌≤◌, List, [], ◌∷◌, length, ℤ, pos, negsuc, ◌+ℤ◌, ◌-ℤ◌, ◌*ℤ◌, ◌≤ℤ◌, ◌<ℤ◌, sym, subst, suc-le-suc, mul-le-mul, arith}
+use Rattle.std.proofs.Common.{◌≡◌, ℕ, suc, ◌<◌, ◌≤◌, List, [], ◌∷◌, length, ℤ, pos, negsuc, ◌-ℤ◌, ◌*ℤ◌, ◌≤ℤ◌, ◌<ℤ◌, sym, subst, suc-le-suc, mul-le-mul, arith}
 use borrow.Author.Differences.{ints}
 use Rattle.std.proofs.lemmas.Int.{by_lt_z}
 use Rattle.decision.proofs.Bounds.{sq_positive}
 use Rattle.decision.proofs.Ring.{v, sub, mul, same}
 use Rattle.decision.proofs.Spread.{add_le}
-use Rattle.decision.specs.Sample.{away, pairs}
+use Rattle.decision.specs.Sample.{away}
 use Rattle.comparison.specs.Laws as laws
-use Rattle.comparison.specs.Rises.{at, rise, OrderKept}
+use Rattle.comparison.specs.Rises.{at}
 
 -- squares keep the order, from zero up
 pub sq_up : (a b : ℤ) → pos 0 ≤ℤ a → a ≤ℤ b → (a *ℤ a) ≤ℤ (b *ℤ b)

@@ -1,5 +1,5 @@
 -- What starting and turning a sheet come to at the console.
-use Rattle.std.proofs.Common.{◌≡◌, Bool, true, List, length, is_some, Some, None, Ok, Err, Option, Result, sym, refl, ap, ◌∙◌, subst, true≢false}
+use Rattle.std.proofs.Common.{◌≡◌, Bool, true, List, length, is_some, Some, None, Ok, Err, Option, Result, sym, refl, ap, subst, true≢false}
 use Rattle.categories.specs.Handbook as categories
 use Rattle.categories.specs.declared.handbook.HandbookCategory.{HandbookCategory}
 use Rattle.categories.specs.declared.plan.Plan.{Plan}
@@ -32,8 +32,8 @@ use Rattle.console.specs.declared.denial.Denial.TheVariants.{Refused}
 use Rattle.console.specs.declared.denial.Reply.{Reply}
 use Rattle.console.specs.declared.denial.Reply.TheVariants.{Quiet, Denied, Report}
 use Rattle.console.specs.declared.session.Session.{Session}
-use Rattle.console.specs.declared.session.Session.TheVariants.{Idle, Open, Closed}
-use Rattle.console.specs.Effects.{idle, inspecting, closed, quiet, Effect, standing, terms_on, begun, after_start, after_step, after_closing, advanced, by_refusal, reply_of, Follows}
+use Rattle.console.specs.declared.session.Session.TheVariants.{Idle, Open}
+use Rattle.console.specs.Effects.{idle, inspecting, closed, quiet, Effect, standing, terms_on, begun, after_start, after_step, after_closing, by_refusal, reply_of, Follows}
 
 abbrev start_reply : Result (Sheet HandbookCategory HandbookKind) Refusal → Session × Reply
 start_reply (Ok s) = (Open s, Quiet)

@@ -1,5 +1,5 @@
 -- What was replied and what was written, as the console's answer.
-use Rattle.std.proofs.Common.{◌≡◌, ℕ, ◌≤◌, List, length, IfOk, Ok, Err, Result, subst, arith}
+use Rattle.std.proofs.Common.{ℕ, ◌≤◌, List, length, IfOk, Ok, Err, Result, subst, arith}
 use Rattle.packages.specs.declared.reading.Reading.{Reading}
 use Rattle.writing.specs.Bytes.{Wrote}
 use Rattle.writing.specs.Writes.{Writes}

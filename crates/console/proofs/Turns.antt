@@ -1,5 +1,5 @@
 -- One turn of a whole text, and its end.
-use Rattle.std.proofs.Common.{◌≡◌, ℕ, suc, ◌+◌, ◌-◌, ◌<◌, ◌≤◌, Bool, List, [], ◌∷◌, ◌++◌, length, take, drop, Ok, codes, MatchBool, sym, refl, ap, ◌∙◌, subst, append_assoc, arith, length-drop, drop-drop}
+use Rattle.std.proofs.Common.{◌≡◌, ℕ, suc, ◌+◌, ◌-◌, ◌<◌, ◌≤◌, Bool, List, ◌∷◌, ◌++◌, length, take, drop, Ok, codes, MatchBool, sym, refl, ap, ◌∙◌, subst, append_assoc, arith, length-drop, drop-drop}
 use Rattle.std.proofs.lemmas.List.{take_rest, drop_all}
 use Rattle.std.proofs.lemmas.Bool.{lt-ltb, le-ltb}
 use Rattle.packages.specs.declared.reading.Reading.{Reading}

@@ -1,13 +1,12 @@
 -- The verdict average, in the subject's words; and that an unreasonable package is short.
-use Rattle.std.proofs.Common.{◌≡◌, ℕ, ◌+◌, ◌-◌, ◌*◌, ◌≤◌, Bool, true, false, cond, not, ltb, List, [], ◌∷◌, length, ℤ, pos, negsuc, ◌*ℤ◌, neg_ℤ, ◌≤ℤ◌, ◌<ℤ◌, sym, refl, ap, ◌∙◌, subst, arith}
+use Rattle.std.proofs.Common.{◌≡◌, ℕ, ◌-◌, ◌*◌, ◌≤◌, Bool, true, false, cond, not, List, [], ◌∷◌, length, ℤ, pos, negsuc, ◌*ℤ◌, neg_ℤ, ◌≤ℤ◌, ◌<ℤ◌, sym, subst, arith}
 use lib.Signed.{lt_z, le_z}
 use borrow.Author.Differences.{ints}
 use Rattle.std.proofs.lemmas.Bool.{ltb-false, le-ltb}
-use Rattle.decision.specs.declared.outcome.Verdict.{Verdict}
 use Rattle.decision.specs.declared.outcome.Verdict.TheVariants.{Average}
 use Rattle.decision.specs.declared.rule.Rule.{Rule}
-use Rattle.decision.specs.Sample.{total, pairs, is_short, is_unreasonable, short, unreasonable, figures}
-use Rattle.decision.specs.Verdicts.{counted, falls, first, verdict, AboveLimit, ByAverage}
+use Rattle.decision.specs.Sample.{total, is_short, is_unreasonable, short, unreasonable, figures}
+use Rattle.decision.specs.Verdicts.{counted, first, verdict, ByAverage}
 use Rattle.decision.proofs.Ring.{n, neg, mul, most}
 use Rattle.decision.proofs.Spread.{spread_pairs}
 

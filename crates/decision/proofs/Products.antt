@@ -1,5 +1,5 @@
 -- The products of the average's test, at 64 bits.
-use Rattle.std.proofs.Common.{◌≡◌, ℕ, ◌-◌, ◌*◌, ◌≤◌, ℤ, pos, ◌-ℤ◌, ◌*ℤ◌, nat_abs, le_refl, mul-le-mul, arith, lit<, w64, SFits}
+use Rattle.std.proofs.Common.{ℕ, ◌-◌, ◌*◌, ◌≤◌, ℤ, pos, ◌-ℤ◌, ◌*ℤ◌, nat_abs, le_refl, mul-le-mul, arith, lit<, w64, SFits}
 use borrow.Author.Differences.{ints}
 use Rattle.decision.proofs.Bounds.{mul_size, fits64}
 

@@ -1,9 +1,9 @@
 -- The questions put to a sample.
-use Rattle.std.proofs.Common.{◌≡◌, ℕ, zero, suc, ◌+◌, ◌*◌, ◌<◌, ◌≤◌, Bool, true, false, cond, not, ◌&&◌, ◌||◌, eqb, ltb, List, [], ◌∷◌, length, get_or, ℤ, pos, nat_abs, Some, None, Option, sym, refl, ap, ◌∙◌, suc-le-suc, arith}
+use Rattle.std.proofs.Common.{◌≡◌, ℕ, zero, suc, ◌*◌, ◌<◌, ◌≤◌, Bool, true, false, cond, not, ◌||◌, eqb, ltb, List, [], ◌∷◌, length, get_or, ℤ, pos, nat_abs, Some, None, Option, refl, ap, ◌∙◌, suc-le-suc, arith}
 use Rattle.std.proofs.lemmas.Bool.{cond-true, cond-false, lt-ltb, le-ltb, ltb-false}
 use Rattle.std.specs.Option.{option_map}
 use Rattle.decision.specs.declared.outcome.Fault.{Fault}
-use Rattle.decision.specs.declared.outcome.Fault.TheVariants.{Count, Mavs, Range, Factor, Allowed, Average}
+use Rattle.decision.specs.declared.outcome.Fault.TheVariants.{Count, Mavs}
 use Rattle.decision.specs.declared.rule.Rule.{Rule}
 use Rattle.decision.specs.Answer.{outside, ranged, refusal}
 

@@ -1,6 +1,6 @@
 -- Integers as differences of naturals: an identity of integers becomes one of naturals, which omega multiplies out.
-use Rattle.std.proofs.Common.{◌≡◌, ℕ, ◌+◌, ◌*◌, ◌<◌, ◌≤◌, ℤ, pos, ◌+ℤ◌, ◌-ℤ◌, ◌*ℤ◌, neg_ℤ, ◌≤ℤ◌, ◌<ℤ◌, ap, arith}
-use borrow.Author.Differences.{up, down, same_in, at_most_in, below_in, sum_is_lem, product_is, neg_is}
+use Rattle.std.proofs.Common.{◌≡◌, ℕ, ◌+◌, ◌*◌, ◌≤◌, ℤ, pos, ◌+ℤ◌, ◌-ℤ◌, ◌*ℤ◌, neg_ℤ, ◌≤ℤ◌, ap, arith}
+use borrow.Author.Differences.{up, down, same_in, at_most_in, sum_is_lem, product_is, neg_is}
 
 -- z is p - q
 pub record Is (z : ℤ) (p q : ℕ) : Type 0 where

@@ -1,5 +1,5 @@
 -- A started run ends as its definition says, and two of them keep the rule.
-use Rattle.std.proofs.Common.{◌≡◌, ℕ, List, length, Ok, Err, Result, sym, refl, ap, ◌∙◌, subst}
+use Rattle.std.proofs.Common.{◌≡◌, ℕ, List, length, Ok, Err, Result, sym, ap, ◌∙◌, subst}
 use Rattle.std.proofs.lemmas.List.{length-map}
 use Rattle.categories.specs.declared.category.Category as cat
 use Rattle.categories.specs.declared.plan.Plan.{Plan}

@@ -1,24 +1,21 @@
 -- The errors and MAVs that a closing read are those that the events give.
-use Rattle.std.proofs.Common.{◌≡◌, ℕ, zero, suc, ◌*◌, ◌/◌, ◌<◌, ◌≤◌, Bool, true, false, cond, ◌&&◌, ltb, leb, List, [], ◌∷◌, map, length, get_or, take, ℤ, pos, ◌+ℤ◌, ◌-ℤ◌, is_some, Some, None, Option, unwrap_or, sym, refl, ap, ◌∙◌, subst, suc-le-suc, arith}
+use Rattle.std.proofs.Common.{◌≡◌, ℕ, zero, suc, ◌*◌, ◌/◌, ◌<◌, ◌≤◌, Bool, true, false, cond, ltb, List, [], ◌∷◌, map, length, get_or, take, ℤ, pos, ◌+ℤ◌, ◌-ℤ◌, is_some, Some, None, Option, unwrap_or, sym, refl, ap, ◌∙◌, subst, suc-le-suc, arith}
 use Rattle.std.proofs.lemmas.Bool.{and_parts}
 use Rattle.decision.specs.Answer.{Decided, outside}
 use Rattle.packages.specs.declared.reading.Reading.{Reading}
 use Rattle.packages.specs.declared.reading.Reading.TheVariants.{Empty, Weighed, Opened}
 use Rattle.sheet.specs.declared.call.Phase.{Phase}
 use Rattle.sheet.specs.declared.call.Phase.TheVariants.{Unsettled, Settled}
-use Rattle.sheet.specs.declared.record.Record.{Record}
 use Rattle.sheet.specs.declared.refusal.Refusal.{Refusal}
 use Rattle.sheet.specs.declared.refusal.Refusal.TheVariants as why
-use Rattle.sheet.specs.Closing.{complete, all_complete, package_error, errors, mavs, closing, closing_in, Recorded}
+use Rattle.sheet.specs.Closing.{complete, all_complete, package_error, errors, mavs, closing}
 use Rattle.sheet.specs.Steps.{label_fits}
 use Rattle.sheet.specs.Tare.{gross_of, label_of}
 use Rattle.sheet.specs.Terms.{Terms}
-use Rattle.history.specs.declared.entry.Entry.{Entry}
 use Rattle.history.specs.Memory.{Weighing, weighing, each, label_at, error_at, errors_of, mavs_of, last_tare, last_weighing}
-use Rattle.history.specs.Rule.{Remembers, ClosedBy, new_run}
-use Rattle.history.specs.Runs.{Event, Ran}
-use Rattle.history.proofs.Invariant.{Inv, Holds, kept, TareIs}
-use Rattle.history.proofs.Kept.{Sound, run_sound, new_inv}
+use Rattle.history.specs.Rule.{Remembers, new_run}
+use Rattle.history.proofs.Invariant.{Holds, kept, TareIs}
+use Rattle.history.proofs.Kept.{run_sound, new_inv}
 
 -- a list by its places
 pub each_map : {A : Type 0} (n : ℕ) (rows : List Reading) (f : Reading → A) (g : ℕ → A) → n ≤ length rows → ((k : ℕ) → k < n → f (get_or rows k Empty) ≡ g (suc k)) → map f (take n rows) ≡ each n g

@@ -1,5 +1,5 @@
 -- What every call keeps: a weighed place holds what its last accepted weighing or correcting said, and a settled tare is the last one.
-use Rattle.std.proofs.Common.{◌≡◌, ℕ, zero, suc, ◌-◌, ◌<◌, ◌≤◌, Bool, true, false, cond, ◌&&◌, eqb, ltb, leb, List, length, get_or, take, set, Some, None, Ok, Err, Option, Result, sym, refl, ap, ◌∙◌, subst, ⊎_elim, arith, length-set, get_or-set_other, get_or-set_same}
+use Rattle.std.proofs.Common.{◌≡◌, ℕ, suc, ◌-◌, ◌<◌, ◌≤◌, Bool, true, false, cond, ◌&&◌, eqb, ltb, leb, List, length, get_or, take, set, None, Ok, Err, Option, Result, sym, refl, subst, ⊎_elim, arith, length-set, get_or-set_other, get_or-set_same}
 use Rattle.std.proofs.lemmas.Bool.{cases_eq, eq-eqb, ne_eqb, leb-true, and_parts, cond-false}
 use Rattle.packages.specs.declared.reading.Reading.{Reading}
 use Rattle.packages.specs.declared.reading.Reading.TheVariants.{Empty, Weighed, Opened}
@@ -11,10 +11,10 @@ use Rattle.sheet.specs.declared.call.Phase.TheVariants.{Unsettled, Settled}
 use Rattle.sheet.specs.declared.refusal.Refusal.{Refusal}
 use Rattle.sheet.specs.declared.refusal.Refusal.TheVariants as why
 use Rattle.sheet.specs.Calls.{place_of, placed, weighable, frozen, performed, thawed, step}
-use Rattle.sheet.specs.Steps.{Outcome, taken, refused, weigh_on, correct_on, strike_on, open_on, tared, written}
+use Rattle.sheet.specs.Steps.{Outcome, taken, refused, weigh_on, correct_on, strike_on, open_on, written}
 use Rattle.sheet.specs.Tare.{all_opened, total_for, average_of, settling, settles, settle, reopen}
 use Rattle.sheet.specs.Terms.{Terms}
-use Rattle.history.specs.Memory.{Weighing, weighing, noted, noted_call, tare_noted}
+use Rattle.history.specs.Memory.{Weighing, weighing, noted, tare_noted}
 use Rattle.history.specs.Runs.{event}
 
 -- what a record keeps of a label

@@ -1,11 +1,11 @@
 -- A run to an accepted closing keeps the invariant.
-use Rattle.std.proofs.Common.{◌≡◌, ℕ, zero, suc, ◌<◌, ◌≤◌, Bool, true, false, List, [], ◌∷◌, length, get_or, Some, None, Option, sym, refl, ap, ◌∙◌, subst, arith}
+use Rattle.std.proofs.Common.{◌≡◌, ℕ, zero, suc, ◌<◌, ◌≤◌, true, List, [], ◌∷◌, length, get_or, Some, None, Option, sym, refl, ap, subst, arith}
 use Rattle.packages.specs.declared.reading.Reading.{Reading}
-use Rattle.packages.specs.declared.reading.Reading.TheVariants.{Empty, Weighed, Opened}
+use Rattle.packages.specs.declared.reading.Reading.TheVariants.{Empty}
 use Rattle.packages.specs.Readings.{emptied}
 use Rattle.sheet.specs.declared.call.Call.{Call}
 use Rattle.sheet.specs.declared.call.Phase.{Phase}
-use Rattle.sheet.specs.declared.call.Phase.TheVariants.{Unsettled, Settled}
+use Rattle.sheet.specs.declared.call.Phase.TheVariants.{Unsettled}
 use Rattle.sheet.specs.declared.refusal.Refusal.{Refusal}
 use Rattle.sheet.specs.Calls.{step}
 use Rattle.sheet.specs.Closing.{closing}
@@ -14,7 +14,7 @@ use Rattle.sheet.specs.Terms.{Terms}
 use Rattle.history.specs.declared.entry.Entry.{Entry}
 use Rattle.history.specs.declared.entry.Entry.TheVariants as entry
 use Rattle.history.specs.Memory.{Weighing, weighing, remembered, tare_remembered}
-use Rattle.history.specs.Runs.{Ran, stopped, after_call, after_close, run}
+use Rattle.history.specs.Runs.{Ran, after_call, after_close, run}
 use Rattle.history.proofs.Invariant.{Inv, Fine, Holds, step_fine}
 
 -- a run that is closed: the closing asked no more, and the invariant holds of what the events say

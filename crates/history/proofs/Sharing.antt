@@ -2,10 +2,8 @@
 use Rattle.std.proofs.Common.{◌≡◌, ℕ, ◌*◌, ◌≤◌, Bool, true, false, cond, ltb, List, length, Ok, Err, Option, Result, sym, refl, ap, ◌∙◌, subst, arith}
 use Rattle.std.proofs.lemmas.Bool.{ltb-false}
 use Rattle.categories.specs.declared.plan.Plan.{Plan}
-use Rattle.categories.specs.Meaning.{Sampling}
 use Rattle.comparison.specs.Rises.{NoneLower}
 use Rattle.kinds.specs.Meaning.{Meaning}
-use Rattle.lots.specs.declared.lot.Lot.{Lot}
 use Rattle.lots.specs.declared.lot.LotFault.{LotFault}
 use Rattle.lots.specs.declared.lot.LotFault.TheVariants.{OutOfRange, NotTaken}
 use Rattle.lots.specs.Lots.{in_range, suits, units, taken, planned}
@@ -13,7 +11,6 @@ use Rattle.sheet.specs.declared.record.Record.{Record}
 use Rattle.sheet.specs.declared.refusal.Refusal.{Refusal}
 use Rattle.sheet.specs.declared.refusal.Refusal.TheVariants as why
 use Rattle.sheet.specs.Starts.{starting}
-use Rattle.sheet.specs.Terms.{Terms}
 use Rattle.history.specs.Contest.{Category, Setup, terms_for, ran, start, Shares}
 use Rattle.history.specs.Memory.{label_at, errors_of}
 use Rattle.history.specs.Rule.{ClosedBy, Shared, FollowsFor}

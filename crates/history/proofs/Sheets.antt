@@ -1,12 +1,12 @@
 -- The rule for two sheets, from the rule for two lists of errors.
-use Rattle.std.proofs.Common.{◌≡◌, ℕ, zero, suc, ◌≤◌, List, [], ◌∷◌, ℤ, sym, refl, ap, ◌∙◌, subst, arith}
+use Rattle.std.proofs.Common.{◌≡◌, ℕ, zero, suc, ◌≤◌, List, ◌∷◌, ℤ, refl, ap, ◌∙◌, subst, arith}
 use Rattle.comparison.proofs.Statements.{rule_for_two}
 use Rattle.decision.specs.declared.rule.Rule.{Rule}
 use Rattle.decision.specs.Answer.{Decided}
 use Rattle.sheet.specs.declared.record.Record.{Record}
 use Rattle.sheet.specs.Terms.{Terms}
 use Rattle.history.specs.Memory.{each, label_at, errors_of, mavs_of}
-use Rattle.history.specs.Rule.{TwoSheets, Shared, FollowsFor, new_run}
+use Rattle.history.specs.Rule.{TwoSheets, Shared, new_run}
 use Rattle.history.specs.Runs.{Event}
 use Rattle.history.proofs.Errors.{remembers}
 

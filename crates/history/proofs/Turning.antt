@@ -1,5 +1,5 @@
 -- One entry of a run.
-use Rattle.std.proofs.Common.{◌≡◌, ℕ, ◌+◌, ◌<◌, ◌≤◌, true, false, List, [], ◌∷◌, length, get_or, drop, is_some, Some, None, Ok, Err, Option, Result, sym, refl, ap, ◌∙◌, subst, arith}
+use Rattle.std.proofs.Common.{◌≡◌, ℕ, ◌+◌, ◌<◌, ◌≤◌, true, false, List, length, get_or, drop, is_some, Some, None, Ok, Err, Option, sym, refl, ap, ◌∙◌, subst, arith}
 use Rattle.std.proofs.lemmas.List.{at_drop_more, at_drop_all}
 use Rattle.categories.specs.declared.category.Category as cat
 use Rattle.kinds.specs.declared.kind.Kind as kin
@@ -11,13 +11,13 @@ use Rattle.sheet.specs.declared.record.Record.{Record}
 use Rattle.sheet.specs.declared.refusal.Refusal.{Refusal}
 use Rattle.sheet.specs.declared.sheet.Sheet.{Sheet}
 use Rattle.sheet.specs.Calls.{step}
-use Rattle.sheet.specs.Closing.{closing, Recorded}
+use Rattle.sheet.specs.Closing.{Recorded}
 use Rattle.sheet.specs.Steps as outcome
 use Rattle.sheet.specs.Terms.{Terms}
 use Rattle.sheet.specs.Views.{Kept, terms_of}
 use Rattle.history.specs.declared.entry.Entry.{Entry}
 use Rattle.history.specs.declared.entry.Entry.TheVariants as entry
-use Rattle.history.specs.Runs.{Ran, stopped, prepend, after_call, after_close, turn, run}
+use Rattle.history.specs.Runs.{Ran, stopped, after_call, after_close, turn, run}
 use Rattle.history.specs.Turns.{Moved, Turned, Runs}
 
 module _ {C K : Type 0} (t : Terms) (s s₁ : Sheet C K) (rows rows₁ : List Reading) (k : Kept s s₁) where

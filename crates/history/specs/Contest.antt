@@ -1,19 +1,16 @@
 -- Two new sheets, each started and run, and what the rule for two sheets says of their records.
-use Rattle.std.specs.Prelude.{◌≡◌, ℕ, ◌≤◌, Bool, true, false, List, length, pos, ◌≤ℤ◌, Ok, Err, Option, Result}
+use Rattle.std.specs.Prelude.{◌≡◌, ℕ, ◌≤◌, Bool, false, List, length, Ok, Err, Option, Result}
 use Rattle.categories.specs.declared.plan.Plan.{Plan}
 use Rattle.categories.specs.Meaning.{Sampling}
-use Rattle.comparison.specs.Rises.{NoneLower, OrderKept}
+use Rattle.comparison.specs.Rises.{NoneLower}
 use Rattle.kinds.specs.Meaning.{Meaning}
 use Rattle.lots.specs.declared.lot.Lot.{Lot}
 use Rattle.lots.specs.Lots.{planned}
 use Rattle.packages.specs.declared.reading.Reading.{Reading}
 use Rattle.sheet.specs.declared.record.Record.{Record}
 use Rattle.sheet.specs.declared.refusal.Refusal.{Refusal}
-use Rattle.sheet.specs.declared.sheet.Sheet.{Sheet}
-use Rattle.sheet.specs.Closing.{Recorded}
 use Rattle.sheet.specs.Starts.{starting}
 use Rattle.sheet.specs.Terms.{Terms, terms}
-use Rattle.sheet.specs.Views.{Kept}
 use Rattle.history.specs.declared.entry.Entry.{Entry}
 use Rattle.history.specs.declared.ending.Ending.{Ending}
 use Rattle.history.specs.declared.ending.Ending.TheVariants.{Refused, Open, Closed}

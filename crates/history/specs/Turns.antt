@@ -1,7 +1,6 @@
 -- What one entry, and a list of them, answers and leaves.
 use Rattle.std.specs.Prelude.{◌≡◌, true, false, List, is_some, Some, None, Ok, Err, Option, Result}
 use Rattle.packages.specs.declared.reading.Reading.{Reading}
-use Rattle.sheet.specs.declared.call.Phase.{Phase}
 use Rattle.sheet.specs.declared.record.Record.{Record}
 use Rattle.sheet.specs.declared.refusal.Refusal.{Refusal}
 use Rattle.sheet.specs.declared.sheet.Sheet.{Sheet}

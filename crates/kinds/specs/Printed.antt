@@ -2,7 +2,7 @@
 -- it allows. A row for labels below a limit reaches up to the last base unit below it.
 use Rattle.std.specs.Prelude.{ℕ, List, [], ◌∷◌}
 use Rattle.kinds.specs.declared.entry.Entry.{Entry}
-use Rattle.kinds.specs.declared.entry.Entry.TheVariants.{Fixed, Tenths, Whole}
+use Rattle.kinds.specs.declared.entry.Entry.TheVariants.{Fixed, Tenths}
 
 -- packages labeled by weight, in milligrams
 abbrev pub msi : List (ℕ × Entry)

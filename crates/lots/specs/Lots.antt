@@ -1,5 +1,5 @@
 -- A lot, and the plan by which it is inspected.
-use Rattle.std.specs.Prelude.{ℕ, ◌*◌, Bool, true, false, cond, not, ◌&&◌, ◌||◌, List, is_some, Some, None, Ok, Err, Option, Result, ◌==◌, nat_le}
+use Rattle.std.specs.Prelude.{ℕ, ◌*◌, Bool, true, cond, not, ◌&&◌, ◌||◌, List, is_some, Some, None, Ok, Err, Option, Result, ◌==◌, nat_le}
 use Rattle.categories.specs.declared.plan.Plan.{Plan}
 use Rattle.categories.specs.Meaning.{Sampling}
 use Rattle.kinds.specs.Handbook.{weight, count}

@@ -1,12 +1,12 @@
 -- A call, by the questions in their order.
-use Rattle.std.proofs.Common.{◌≡◌, ℕ, Bool, true, false, cond, ltb, List, length, Ok, Err, Result, sym, refl, ap, ◌∙◌, subst}
+use Rattle.std.proofs.Common.{◌≡◌, true, false, ltb, List, length, Err, Result, refl}
 use Rattle.packages.specs.declared.reading.Reading.{Reading}
 use Rattle.sheet.specs.declared.call.Call.{Call}
 use Rattle.sheet.specs.declared.call.Phase.{Phase}
 use Rattle.sheet.specs.declared.refusal.Refusal.{Refusal}
 use Rattle.sheet.specs.declared.refusal.Refusal.TheVariants.{FewPlaces, NoPlace, Unweighable}
 use Rattle.sheet.specs.Calls.{place_of, placed, weighable, thawed, step}
-use Rattle.sheet.specs.Steps.{Outcome, refused, Follows}
+use Rattle.sheet.specs.Steps.{Follows}
 use Rattle.sheet.specs.Terms.{Terms}
 
 module _ (t : Terms) (ph : Phase) (rows : List Reading) (call : Call) where

@@ -1,5 +1,5 @@
 -- A lot that a category takes is sound.
-use Rattle.std.proofs.Common.{◌≡◌, ℕ, ◌*◌, ◌≤◌, Bool, true, false, cond, not, ◌&&◌, ◌||◌, leb, List, Some, None, Ok, Err, Option, Result, sym, refl, ap, ◌∙◌, subst, arith}
+use Rattle.std.proofs.Common.{◌≡◌, ℕ, ◌≤◌, Bool, true, false, cond, not, ◌&&◌, ◌||◌, leb, List, Some, None, Ok, Err, Option, Result, sym, refl, subst, arith}
 use Rattle.std.proofs.lemmas.Bool.{le-leb, le-ltb, cond-false}
 use Rattle.categories.specs.declared.plan.Plan.{Plan}
 use Rattle.categories.specs.Meaning.{Sampling, Sound, InBounds}

@@ -1,12 +1,11 @@
 -- What each call does, by the questions in their order.
-use Rattle.std.specs.Prelude.{ℕ, ◌-◌, Bool, false, cond, ◌&&◌, ◌||◌, List, length, Some, None, Ok, Err, Option, Result, nat_le, nat_lt, slice_index_or}
+use Rattle.std.specs.Prelude.{ℕ, ◌-◌, Bool, false, cond, ◌&&◌, List, length, Some, None, Option, nat_le, nat_lt, slice_index_or}
 use Rattle.packages.specs.declared.reading.Reading.{Reading}
 use Rattle.packages.specs.declared.reading.Reading.TheVariants.{Empty}
 use Rattle.sheet.specs.declared.call.Call.{Call}
 use Rattle.sheet.specs.declared.call.Call.TheVariants.{Weigh, Correct, Strike, Open, Settle, Reopen}
 use Rattle.sheet.specs.declared.call.Phase.{Phase}
 use Rattle.sheet.specs.declared.call.Phase.TheVariants as phase
-use Rattle.sheet.specs.declared.refusal.Refusal.{Refusal}
 use Rattle.sheet.specs.declared.refusal.Refusal.TheVariants as why
 use Rattle.sheet.specs.Steps.{Outcome, refused, label_fits, weigh_on, correct_on, strike_on, open_on}
 use Rattle.sheet.specs.Tare.{settle, reopen}

@@ -1,5 +1,5 @@
 -- The numbers of a lot that a category has taken, and of its plan.
-use Rattle.std.specs.Prelude.{ℕ, ◌*◌, Bool, not, ◌&&◌, ◌||◌, nat_le}
+use Rattle.std.specs.Prelude.{◌*◌, Bool, not, ◌&&◌, ◌||◌, nat_le}
 use Rattle.categories.specs.declared.plan.Plan.{Plan}
 use Rattle.lots.specs.Lots.{in_range}
 use Rattle.lots.specs.declared.lot.Lot.{Lot}

@@ -1,5 +1,5 @@
 -- How a sheet starts.
-use Rattle.std.specs.Prelude.{◌≡◌, ℕ, cond, List, length, Ok, Err, Result, nat_lt}
+use Rattle.std.specs.Prelude.{◌≡◌, ℕ, cond, List, Ok, Err, Result, nat_lt}
 use Rattle.categories.specs.declared.plan.Plan.{Plan}
 use Rattle.lots.specs.declared.lot.Lot.{Lot}
 use Rattle.lots.specs.declared.lot.LotFault.{LotFault}

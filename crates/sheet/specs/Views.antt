@@ -1,5 +1,5 @@
 -- A sheet and a package list as the definitions see them.
-use Rattle.std.specs.Prelude.{◌≡◌, List, map, length}
+use Rattle.std.specs.Prelude.{◌≡◌, List, map}
 use Rattle.categories.specs.declared.category.Category as cat
 use Rattle.kinds.specs.declared.kind.Kind as kin
 use Rattle.packages.specs.declared.list.PackageList.{PackageList}

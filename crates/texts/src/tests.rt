@@ -277,7 +277,7 @@ fn a_short_output_changes_nothing(rt: HostRuntime) {
     assert_eq!(rt; closed, Some(82));
     assert_eq!(rt;
         &out[0..82],
-        b"sample 1\ntare 0 0\ntotal 0\nshort 0\nunreasonable 0\ndeviation 0\nlimit 0\nverdict plan\n"
+        b"sample 1\ntare 0 0\ntotal 0\nshort 0\nunreasonable 0\ndeviation 0\nlimit 0\nverdict plan\n".as_slice()
     );
     assert!(rt; all_sevens(&out[82..256]));
 }

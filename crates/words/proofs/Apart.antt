@@ -1,8 +1,8 @@
 -- A word is never two of a command, a number and a dash.
-use Rattle.std.proofs.Common.{◌≡◌, ℕ, Bool, true, false, cond, ◌⊎◌, List, Some, None, codes, Option, sym, refl, ap, ◌∙◌, subst, inl, inr, ⊎_elim}
+use Rattle.std.proofs.Common.{◌≡◌, ℕ, false, cond, List, Some, None, codes, Option, sym, refl, ap, ◌∙◌, subst, ⊎_elim}
 use Rattle.std.specs.Str.{bytes_eq}
 use Rattle.std.proofs.lemmas.Slice.Eq.{bytes_eq-Decides}
-use Rattle.std.proofs.lemmas.Bool.{cases_Bool, cond-true, cond-false}
+use Rattle.std.proofs.lemmas.Bool.{cases_Bool, cond-false}
 use Rattle.words.specs.declared.word.Verb.{Verb}
 use Rattle.words.specs.declared.word.Verb.TheVariants.{Lot, Wt, Fix, Del, Op, Set, Re, End}
 use Rattle.words.specs.Numbers.{number_of}

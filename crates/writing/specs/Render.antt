@@ -1,5 +1,5 @@
 -- How a command is written.
-use Rattle.std.specs.Prelude.{ℕ, Bool, true, ◌&&◌, List, [], ◌∷◌, ◌++◌, Some, None, codes, decimal, Option, nat_le}
+use Rattle.std.specs.Prelude.{ℕ, Bool, true, ◌&&◌, List, [], ◌∷◌, Some, None, codes, decimal, Option, nat_le}
 use Rattle.std.specs.Option.{option_to_list}
 use Rattle.categories.specs.declared.handbook.HandbookCategory.{HandbookCategory}
 use Rattle.categories.specs.declared.handbook.HandbookCategory.TheVariants.{A, B, C}

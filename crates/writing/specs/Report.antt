@@ -4,7 +4,6 @@ use Rattle.std.specs.Fmt.{signed_decimal}
 use Rattle.decision.specs.declared.outcome.Verdict.{Verdict}
 use Rattle.decision.specs.declared.outcome.Verdict.TheVariants.{Mav, Plan, Over, Average, Within}
 use Rattle.sheet.specs.declared.record.Record.{Record}
-use Rattle.sheet.specs.Refusals.{Account}
 use Rattle.writing.specs.Bytes.{line}
 
 abbrev pub verdict_word : Verdict → List ℕ

@@ -1,4 +1,4 @@
-use Rattle.std.proofs.Common.{◌≡◌, List, [], ◌∷◌, sym, ap, ◌∙◌}
+use Rattle.std.proofs.Common.{◌∷◌, sym, ap, ◌∙◌}
 use Rattle.words.specs.declared.word.Verb.TheVariants.{Lot}
 use Rattle.commands.specs.Parsing.{placed, lot_from, read_as}
 use Rattle.commands.proofs.parsing.lot.Goals as goal

@@ -1,4 +1,4 @@
-use Rattle.std.proofs.Common.{◌≡◌, List, [], ◌∷◌, sym, ap, ◌∙◌}
+use Rattle.std.proofs.Common.{◌∷◌, sym, ap, ◌∙◌}
 use Rattle.commands.specs.Fields.{some, number_in}
 use Rattle.commands.specs.Parsing.{placed, weight_from, weighed_by}
 use Rattle.commands.proofs.parsing.weight.Goals as goal

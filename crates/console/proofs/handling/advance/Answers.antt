@@ -1,4 +1,4 @@
-use Rattle.std.proofs.Common.{sym, ap, ◌∙◌, subst}
+use Rattle.std.proofs.Common.{sym, subst}
 use Rattle.sheet.specs.Views.{rows_of}
 use Rattle.console.specs.Effects.{terms_on, standing, inspecting, on_sheet, reply_of, Follows}
 use Rattle.console.proofs.Follow.{called}

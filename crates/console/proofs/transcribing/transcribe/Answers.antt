@@ -1,4 +1,4 @@
-use Rattle.std.proofs.Common.{◌≡◌, ◌+◌, ◌-◌, ◌++◌, length, take, drop, vec_items, codes, sym, refl, ap, ◌∙◌, subst, arith}
+use Rattle.std.proofs.Common.{◌+◌, ◌-◌, ◌++◌, take, drop, vec_items, codes, refl, ap, ◌∙◌, subst, arith}
 use Rattle.sheet.specs.Views.{rows_of}
 use Rattle.words.specs.Lines.{lines}
 use Rattle.console.specs.Effects.{idle, standing}

@@ -1,6 +1,6 @@
-use Rattle.std.proofs.Common.{◌≡◌, ℕ, ◌<◌, true, false, ltb, length, get_or, ℤ, pos, nat_abs, sym, ap, ◌∙◌, arith, w32, SFits, to_z, of_z, rules, below_more}
+use Rattle.std.proofs.Common.{◌≡◌, ◌<◌, true, ltb, length, get_or, pos, nat_abs, sym, ap, ◌∙◌, arith, w32, SFits, rules}
 use Rattle.std.proofs.lemmas.Int.{to_z-of_z}
-use Rattle.std.proofs.lemmas.Bool.{ltb-true, ltb-false}
+use Rattle.std.proofs.lemmas.Bool.{ltb-true}
 use Rattle.decision.proofs.Ranges.{outside_found, outside_none}
 use Rattle.decision.proofs.deciding.out_of_range.Goals as goal
 

@@ -1,4 +1,4 @@
-use Rattle.std.proofs.Common.{ℕ, ◌-◌, ◌*◌, ◌<◌, subst, mul-pos, arith}
+use Rattle.std.proofs.Common.{ℕ, ◌*◌, subst, mul-pos, arith}
 use Rattle.decision.specs.Verdicts.{Largest}
 use Rattle.decision.proofs.Roots.{largest}
 use Rattle.decision.proofs.judging.deviation_of.Goals as goal

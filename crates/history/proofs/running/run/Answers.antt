@@ -1,9 +1,8 @@
-use Rattle.std.proofs.Common.{◌≡◌, None, ◌∙◌}
+use Rattle.std.proofs.Common.{None, ◌∙◌}
 use Rattle.sheet.specs.declared.call.Call.TheVariants.{Weigh}
 use Rattle.sheet.specs.Views.{rows_of, terms_of}
 use Rattle.history.specs.declared.entry.Entry.{Entry}
 use Rattle.history.specs.declared.entry.Entry.TheVariants.{Call}
-use Rattle.history.specs.Runs.{run}
 use Rattle.history.proofs.Turning.{run_again, run_closed, run_open, terms_kept}
 use Rattle.history.proofs.running.run.Goals as goal
 

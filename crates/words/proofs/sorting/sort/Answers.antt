@@ -1,4 +1,4 @@
-use Rattle.std.proofs.Common.{sym, refl, rules}
+use Rattle.std.proofs.Common.{sym, refl}
 use Rattle.words.proofs.Apart.{verb_apart, number_apart}
 use Rattle.words.proofs.sorting.sort.Goals as goal
 

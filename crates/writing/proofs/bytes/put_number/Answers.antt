@@ -1,4 +1,4 @@
-use Rattle.std.proofs.Common.{◌++◌, take, drop, decimal, refl, ap, ◌∙◌, arith}
+use Rattle.std.proofs.Common.{◌++◌, take, drop, decimal, ap, ◌∙◌, arith}
 use Rattle.std.proofs.lemmas.Fmt.{length-decimal-le}
 use Rattle.writing.proofs.Puts.{goes_on}
 use Rattle.writing.proofs.bytes.put_number.Goals as goal

@@ -1,4 +1,4 @@
-use Rattle.std.proofs.Common.{◌≤◌, length, sym, refl, arith}
+use Rattle.std.proofs.Common.{length, sym, refl, arith}
 use Rattle.lots.specs.Lots.{planned}
 use Rattle.sheet.proofs.Taken.{planned_sound, started, new_sheet}
 use Rattle.sheet.proofs.sheet.Sheet.start.Goals as goal

@@ -1,4 +1,4 @@
-use Rattle.std.proofs.Common.{◌≡◌, ◌+◌, ◌-◌, ◌∷◌, drop, sym, refl, ap, ◌∙◌, arith, rules}
+use Rattle.std.proofs.Common.{◌≡◌, ◌+◌, ◌-◌, ◌∷◌, drop, sym, refl, ap, ◌∙◌, arith}
 use Rattle.words.specs.Lines.{gap, start, stop, words}
 use Rattle.words.proofs.WordLaws.{ahead_some, ahead_none, after_none}
 use Rattle.words.proofs.Ahead.{starts, stops, part_is}
