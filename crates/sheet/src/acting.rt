@@ -5,7 +5,7 @@ ghost use Rattle.sheet.specs.Steps.{Follows};
 ghost use Rattle.sheet.specs.Views.{rows_of, terms_of, Kept};
 
 use crate::call::{Call, Phase};
-use crate::placing::{correct, is_label, open, strike, weigh};
+use crate::placing::{corrected, held_at, is_label, opened, place_next, struck, weighed};
 use crate::refusal::Refusal;
 use crate::sheet::Sheet;
 use categories::category::Category;
@@ -29,10 +29,7 @@ fn place_of(call: Call) -> Option<u32>
 fn is_placed(sample: u32, place: Option<u32>) -> bool
     ensures { result ≡ placed_by sample place }
 {
-    match place {
-        Some(place) => 1 <= place && place <= sample,
-        None => true,
-    }
+    place.is_none_or(|place| (1..=sample).contains(&place))
 }
 
 // Weighing and correcting give a weight up to 999999, and a label where one belongs.
@@ -70,7 +67,10 @@ impl<C: Category, K: Kind> Sheet<C, K> {
                     gross,
                     label,
                 },
-            ) => weigh(list, place, gross, label),
+            ) => {
+                let next = weighed(held_at(list, place), gross, label);
+                place_next(list, place, next)
+            }
             (
                 _,
                 Call::Correct {
@@ -78,9 +78,18 @@ impl<C: Category, K: Kind> Sheet<C, K> {
                     gross,
                     label,
                 },
-            ) => correct(list, place, gross, label),
-            (_, Call::Strike { place }) => strike(list, place),
-            (_, Call::Open { place, tare }) => open(list, place, tare),
+            ) => {
+                let next = corrected(held_at(list, place), gross, label);
+                place_next(list, place, next)
+            }
+            (_, Call::Strike { place }) => {
+                let next = struck(held_at(list, place));
+                place_next(list, place, next)
+            }
+            (_, Call::Open { place, tare }) => {
+                let next = opened(held_at(list, place), tare);
+                place_next(list, place, next)
+            }
             (Phase::Unsettled, Call::Settle) => {
                 self.phase = self.settling(list)?;
                 Ok(())
