@@ -1,4 +1,3 @@
-pub mod Asking
 pub mod Errors
 pub mod Places
 pub mod Questions

@@ -46,8 +46,8 @@ fn is_weighable(random: bool, call: Call) -> bool
 impl<C: Category, K: Kind> Sheet<C, K> {
     // The call by the sheet's phase, once its place, weight and label are asked.
     fn perform<P: Package>(&mut self, list: &mut PackageList<P>, call: Call) -> Result<(), Refusal>
-        requires sample_in_bounds { self.old.plan.sample ≤ length list.old.places.now }
-        requires call_value { placed_by self.old.plan.sample (place_of call) ≡ true }
+        requires enough_places { self.old.plan.sample ≤ length list.old.places.now }
+        requires placed { placed_by self.old.plan.sample (place_of call) ≡ true }
         ensures step { Follows (thawed (terms_of C.Category K.Kind P.Package self.old) self.old.phase (rows_of P.Package list.old) call) self.old.phase (rows_of P.Package list.old) result self.new.phase (rows_of P.Package list.new) }
         ensures kept { Kept self.old self.new }
         ensures memory { SameMemory list.old.places list.new.places }
