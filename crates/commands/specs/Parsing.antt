@@ -1,7 +1,6 @@
 -- What a line asks for, by the questions in their order: its length, its command, its count of words, its numbers, its names.
 use Rattle.std.specs.Prelude.{ℕ, Bool, cond, ◌||◌, List, [], ◌∷◌, length, Some, None, Ok, Err, Option, Result, ◌==◌, nat_lt, slice_index_or}
 use Rattle.sheet.specs.declared.call.Call.TheVariants.{Weigh, Correct, Strike, Open, Settle, Reopen}
-use Rattle.words.specs.declared.reader.Part.{Part}
 use Rattle.words.specs.declared.word.Verb.{Verb}
 use Rattle.words.specs.declared.word.Verb.TheVariants.{Lot, Wt, Fix, Del, Op, Set, Re, End}
 use Rattle.words.specs.Lines.{Placed, words}
@@ -10,6 +9,8 @@ use Rattle.commands.specs.declared.command.Command.{Command}
 use Rattle.commands.specs.declared.command.Command.TheVariants as command
 use Rattle.commands.specs.declared.fault.Fault.{Fault}
 use Rattle.commands.specs.declared.fault.Why.TheVariants.{TooLong, NotCommand, Miscounted}
+use Rattle.commands.specs.declared.line.Line.{Line}
+use Rattle.commands.specs.Behind.{behind}
 use Rattle.commands.specs.Faults.{fault}
 use Rattle.commands.specs.Fields.{some, number_in, label_in, category_in, kind_in}
 
@@ -31,9 +32,6 @@ counts End n = n == 0
 
 abbrev pub at : List Placed → ℕ → Placed
 at ws i = slice_index_or ws i (0, [])
-
-abbrev pub placed : Part → Placed
-placed part = (part.column, part.bytes.now)
 
 -- category, kind, size, division, label, allowance; the numbers are asked before the names
 abbrev pub lot_from : ℕ → Placed → Placed → Placed → Placed → Placed → Placed → Result Command Fault
@@ -70,12 +68,6 @@ counted line column verb ws said = cond (counts verb (length ws)) said (Err (fau
 abbrev pub read_as : ℕ → ℕ → Verb → List Placed → Result Command Fault
 read_as line column verb ws = counted line column verb ws (filled line verb ws)
 
-abbrev pub weighed_by : ℕ → ℕ → List Placed → Result (ℕ × ℕ × Option ℕ) Fault
-weighed_by line column ws = counted line column Wt ws (weight_by line ws)
-
-abbrev pub alone_by : ℕ → ℕ → Command → List Placed → Result Command Fault
-alone_by line column c ws = counted line column Set ws (Ok c)
-
 abbrev pub by_verb : ℕ → ℕ → Option Verb → List Placed → Result Command Fault
 by_verb line column None ws = Err (fault line column NotCommand)
 by_verb line column (Some verb) ws = read_as line column verb ws
@@ -88,3 +80,13 @@ by_words line (w ∷ ws) = some (by_verb line w.0 (verb_of w.1) ws)
 -- a line, with its number
 abbrev pub reading : ℕ → List ℕ → Result (Option Command) Fault
 reading line text = cond (nat_lt 65536 (length text)) (Err (fault 1 1 TooLong)) (by_words line (words 1 text))
+
+-- the same of a line that is taken word by word: what it says as a command, as a weighing, and as one that stands alone
+abbrev pub read_line : Line → Verb → Result Command Fault
+read_line line verb = read_as line.first.line line.first.column verb (behind line)
+
+abbrev pub weighed_by : Line → Result (ℕ × ℕ × Option ℕ) Fault
+weighed_by line = counted line.first.line line.first.column Wt (behind line) (weight_by line.first.line (behind line))
+
+abbrev pub alone_by : Line → Command → Result Command Fault
+alone_by line c = counted line.first.line line.first.column Set (behind line) (Ok c)
