@@ -15,9 +15,10 @@ use Rattle.commands.specs.Faults.{fault}
 use Rattle.commands.specs.Fields.{some, number_in, label_in, category_in, kind_in}
 
 -- what follows a part that was read, or its fault
-abbrev pub after : {X Y : Type 0} → Result X Fault → (X → Result Y Fault) → Result Y Fault
-after (Ok x) next = next x
-after (Err e) next = Err e
+infixl 10 ◌>>=◌
+abbrev pub ◌>>=◌ : {X Y : Type 0} → Result X Fault → (X → Result Y Fault) → Result Y Fault
+Ok x >>= next = next x
+Err e >>= next = Err e
 
 -- how many words follow the command
 abbrev pub counts : Verb → ℕ → Bool
@@ -35,28 +36,41 @@ at ws i = slice_index_or ws i (0, [])
 
 -- category, kind, size, division, label, allowance; the numbers are asked before the names
 abbrev pub lot_from : ℕ → Placed → Placed → Placed → Placed → Placed → Placed → Result Command Fault
-lot_from line c k n d l a =
-    after (number_in line n) (λ size.
-    after (number_in line d) (λ division.
-    after (label_in line l) (λ label.
-    after (number_in line a) (λ allowance.
-    after (category_in line c) (λ category.
-    after (kind_in line k) (λ kind.
-    Ok (command.Lot category kind (record { size = size; division = division; label = label; allowance = allowance }))))))))
+lot_from line c k n d l a = do
+  size ← number_in line n
+  division ← number_in line d
+  label ← label_in line l
+  allowance ← number_in line a
+  category ← category_in line c
+  kind ← kind_in line k
+  Ok (command.Lot category kind (record { size = size; division = division; label = label; allowance = allowance }))
 
 -- place, gross, and a label if one is given
 abbrev pub weight_from : ℕ → Placed → Placed → Result (Option ℕ) Fault → Result (ℕ × ℕ × Option ℕ) Fault
-weight_from line p g l = after (number_in line p) (λ place. after (number_in line g) (λ gross. after l (λ label. Ok (place, gross, label))))
+weight_from line p g l = do
+  place ← number_in line p
+  gross ← number_in line g
+  label ← l
+  Ok (place, gross, label)
 
 abbrev pub weight_by : ℕ → List Placed → Result (ℕ × ℕ × Option ℕ) Fault
 weight_by line ws = weight_from line (at ws 0) (at ws 1) (cond (length ws == 3) (some (number_in line (at ws 2))) (Ok None))
 
 abbrev pub filled : ℕ → Verb → List Placed → Result Command Fault
 filled line Lot ws = lot_from line (at ws 0) (at ws 1) (at ws 2) (at ws 3) (at ws 4) (at ws 5)
-filled line Wt ws = after (weight_by line ws) (λ w. Ok (command.Call (Weigh w.0 w.1 w.2)))
-filled line Fix ws = after (weight_by line ws) (λ w. Ok (command.Call (Correct w.0 w.1 w.2)))
-filled line Del ws = after (number_in line (at ws 0)) (λ place. Ok (command.Call (Strike place)))
-filled line Op ws = after (number_in line (at ws 0)) (λ place. after (number_in line (at ws 1)) (λ tare. Ok (command.Call (Open place tare))))
+filled line Wt ws = do
+  weight ← weight_by line ws
+  Ok (command.Call (Weigh weight.0 weight.1 weight.2))
+filled line Fix ws = do
+  weight ← weight_by line ws
+  Ok (command.Call (Correct weight.0 weight.1 weight.2))
+filled line Del ws = do
+  place ← number_in line (at ws 0)
+  Ok (command.Call (Strike place))
+filled line Op ws = do
+  place ← number_in line (at ws 0)
+  tare ← number_in line (at ws 1)
+  Ok (command.Call (Open place tare))
 filled line Set ws = Ok (command.Call Settle)
 filled line Re ws = Ok (command.Call Reopen)
 filled line End ws = Ok command.End
