@@ -2,7 +2,7 @@ ghost use Rattle.std.specs.Prelude.{◌≡◌};
 ghost use Rattle.std.specs.Iterator.{item_count};
 ghost use Rattle.commands.specs.Behind.{placed, behind, NextWord};
 ghost use Rattle.commands.specs.Faults.{fault};
-ghost use Rattle.commands.specs.Fields.{number_in, label_in, letter_of, category_in, kind_of, kind_in};
+ghost use Rattle.commands.specs.Fields.{number_in, label_in, category_in, kind_in};
 ghost use Rattle.commands.specs.declared.fault.Why.TheVariants as why;
 
 use crate::fault::{Fault, Why};
@@ -11,31 +11,6 @@ use categories::handbook::HandbookCategory;
 use kinds::handbook::HandbookKind;
 use words::reader::Part;
 use words::word::Word;
-
-fn category_of(letter: u8) -> Option<HandbookCategory>
-    ensures { result ≡ letter_of letter }
-{
-    match char::from(letter) {
-        'A' => Some(HandbookCategory::A),
-        'B' => Some(HandbookCategory::B),
-        'C' => Some(HandbookCategory::C),
-        _ => None,
-    }
-}
-
-fn kind_of(word: &[u8]) -> Option<HandbookKind>
-    ensures { result ≡ kind_of word.now }
-{
-    match word {
-        b"msi" => Some(HandbookKind::Msi),
-        b"mus" => Some(HandbookKind::Mus),
-        b"lsi" => Some(HandbookKind::Lsi),
-        b"cnt" => Some(HandbookKind::Cnt),
-        b"len" => Some(HandbookKind::Len),
-        b"are" => Some(HandbookKind::Are),
-        _ => None,
-    }
-}
 
 impl<'a> Iterator for Line<'a> {
     type Item = Part<'a>;
@@ -93,16 +68,18 @@ impl<'a> Line<'a> {
     pub(crate) fn category(&self, part: Part<'_>) -> Result<HandbookCategory, Fault>
         ensures { result ≡ category_in self.now.first.line (placed part.entry) }
     {
+        let unknown = self.fault(part, Why::Unknown);
         let [letter] = part.bytes else {
-            return Err(self.fault(part, Why::Unknown));
+            return Err(unknown);
         };
-        category_of(*letter).ok_or(self.fault(part, Why::Unknown))
+        HandbookCategory::try_from(char::from(*letter)).map_err(|_| unknown)
     }
 
     // A word that is to be a kind.
     pub(crate) fn kind(&self, part: Part<'_>) -> Result<HandbookKind, Fault>
         ensures { result ≡ kind_in self.now.first.line (placed part.entry) }
     {
-        kind_of(part.bytes).ok_or(self.fault(part, Why::Unknown))
+        let unknown = self.fault(part, Why::Unknown);
+        HandbookKind::try_from(part.bytes).map_err(|_| unknown)
     }
 }

@@ -1,5 +1,4 @@
-ghost use Rattle.std.specs.Prelude.{◌≡◌};
-ghost use Rattle.std.specs.Result.{result_ok};
+ghost use Rattle.std.specs.Prelude.{◌≡◌, Some, None, MatchResult};
 ghost use Rattle.words.specs.Sorts.{verb_of, Sorted};
 
 use crate::numbers::read_number;
@@ -8,10 +7,10 @@ use crate::word::{UnknownVerb, Verb, Word};
 impl TryFrom<&[u8]> for Verb {
     type Error = UnknownVerb;
 
-    ghost try_from_gives = { λ bytes r. result_ok r ≡ verb_of bytes.now };
+    ghost try_from_gives = { λ word r. MatchResult r (λ verb. verb_of word.now ≡ Some verb) (λ _. verb_of word.now ≡ None) };
 
-    fn try_from(bytes: &[u8]) -> Result<Self, UnknownVerb> {
-        match bytes {
+    fn try_from(word: &[u8]) -> Result<Self, UnknownVerb> {
+        match word {
             b"lot" => Ok(Verb::Lot),
             b"wt" => Ok(Verb::Wt),
             b"fix" => Ok(Verb::Fix),
