@@ -4,7 +4,7 @@ use lots::lot::Lot;
 use sheet::call::Call;
 
 // What a line asks for.
-#[derive(Clone, Copy)]
+#[derive(Clone, Copy, Debug, PartialEq, Eq)]
 pub enum Command {
     Lot {
         category: HandbookCategory,

@@ -1,4 +1,3 @@
-pub mod Ahead
 pub mod Apart
 pub mod Digits
 pub mod LineLaws

@@ -1,11 +1,8 @@
 -- The words of a line, one after the other.
-use Rattle.std.proofs.Common.{◌≡◌, ℕ, ◌+◌, ◌-◌, ◌<◌, true, false, eqb, List, [], ◌∷◌, take, drop, sym, refl, ap, ◌∙◌, subst, ⊎_elim, add-zero, one-add, arith, drop-drop}
+use Rattle.std.proofs.Common.{◌≡◌, ℕ, ◌+◌, ◌-◌, ◌<◌, true, false, eqb, List, [], ◌∷◌, length, take, drop, sym, refl, ap, ◌∙◌, subst, ⊎_elim, add-zero, one-add, arith, drop-drop}
 use Rattle.std.proofs.lemmas.Bool.{cases_Bool, cond-true, cond-false, eqb-true, and_from, not_from_false}
-use Rattle.words.specs.Lines.{gap, word_length, start, stop, words_after, words}
-
--- the bytes of the first word at or after a place
-abbrev pub word_at : List ℕ → ℕ → List ℕ
-word_at text place = take (stop text place - start text place) (drop (start text place) text)
+use Rattle.std.proofs.lemmas.List.{take_rest}
+use Rattle.words.specs.Lines.{gap, word_length, words_after, words}
 
 -- past the spaces at the front
 pub past_gap : (c : ℕ) (bs : List ℕ) → words c bs ≡ words (c + gap bs) (drop (gap bs) bs)
@@ -71,22 +68,30 @@ gap_past (b ∷ bs) =
     (λ f. let none : gap (b ∷ bs) ≡ 0 = cond-false _ _ _ f in subst (λ n. gap (drop n (b ∷ bs)) ≡ 0) (sym none) none)
     (cases_Bool (eqb b 32))
 
-module _ (t : List ℕ) (p c : ℕ) where
-  here : words c (drop p t) ≡ words (c + gap (drop p t)) (drop (start t p) t)
-  here = past_gap c (drop p t) ∙ ap (λ l. words (c + gap (drop p t)) l) (drop-drop (gap (drop p t)) p t)
+-- the words from a place on, which g spaces and then w bytes of a word follow
+module _ (t : List ℕ) (p c g w : ℕ) (gap_is : g ≡ gap (take (length t - p) (drop p t))) (word_is : w ≡ word_length (take (length t - (p + g)) (drop (p + g) t))) where
+  gap_here : g ≡ gap (drop p t)
+  gap_here = gap_is ∙ ap gap (take_rest t p)
 
-  pub ahead_some : (k : ℕ) → start t p < stop t p → k + p ≡ c + stop t p → words c (drop p t) ≡ (c + gap (drop p t), word_at t p) ∷ words k (drop (stop t p) t)
-  ahead_some k h e =
-      let n = word_length (drop (start t p) t) in
-      let one : stop t p - start t p ≡ n = omega arith in
-      let two : c + gap (drop p t) + n ≡ k = omega arith in
-      here ∙ at_word (c + gap (drop p t)) (drop (start t p) t) (omega arith)
-      ∙ (λ i. (c + gap (drop p t), take (sym one i) (drop (start t p) t)) ∷ words (two i) (drop-drop n (start t p) t i))
+  word_here : w ≡ word_length (drop (p + g) t)
+  word_here = word_is ∙ ap word_length (take_rest t (p + g))
 
-  pub ahead_none : start t p ≡ stop t p → words c (drop p t) ≡ []
-  ahead_none h = here ∙ no_word (c + gap (drop p t)) (drop (start t p) t) (ap gap (sym (drop-drop (gap (drop p t)) p t)) ∙ gap_past (drop p t)) (omega arith)
+  past_here : words c (drop p t) ≡ words (c + g) (drop (p + g) t)
+  past_here = past_gap c (drop p t) ∙ ap (λ n. words (c + n) (drop n (drop p t))) (sym gap_here) ∙ ap (words (c + g)) (drop-drop g p t)
 
-  pub after_none : (k : ℕ) → start t p ≡ stop t p → k + p ≡ c + stop t p → words k (drop (stop t p) t) ≡ []
-  after_none k h e =
-      ap (λ n. words k (drop n t)) (sym h)
-      ∙ no_word k (drop (start t p) t) (ap gap (sym (drop-drop (gap (drop p t)) p t)) ∙ gap_past (drop p t)) (omega arith)
+  no_word_here : w ≡ 0 → (k : ℕ) → words k (drop (p + g) t) ≡ []
+  no_word_here h k = no_word k (drop (p + g) t) (ap gap (sym (drop-drop g p t) ∙ ap (λ n. drop n (drop p t)) gap_here) ∙ gap_past (drop p t)) (sym word_here ∙ h)
+
+  pub next_some : 0 < w → words c (drop p t) ≡ (c + g, take (p + g + w - (p + g)) (drop (p + g) t)) ∷ words (c + g + w) (drop (p + g + w) t)
+  next_some h =
+      let l = drop (p + g) t in
+      let cut : w ≡ p + g + w - (p + g) = omega arith in
+      past_here ∙ at_word (c + g) l (omega (arith, word_here))
+      ∙ ap (λ n. (c + g, take n l) ∷ words (c + g + n) (drop n l)) (sym word_here)
+      ∙ (λ i. (c + g, take (cut i) l) ∷ words (c + g + w) (drop-drop w (p + g) t i))
+
+  pub next_none : w ≡ 0 → words c (drop p t) ≡ []
+  next_none h = past_here ∙ no_word_here h (c + g)
+
+  pub after_none : w ≡ 0 → words (c + g + w) (drop (p + g + w) t) ≡ []
+  after_none h = let end : p + g + w ≡ p + g = omega arith in ap (λ n. words (c + g + w) (drop n t)) end ∙ no_word_here h (c + g + w)

@@ -9,12 +9,7 @@ fn spaces(bytes: &[u8]) -> usize
     ensures is { result ≡ gap bytes.now }
     ensures within { result ≤ length bytes.now }
 {
-    for (n, byte) in bytes.iter().enumerate() {
-        if *byte != b' ' {
-            return n;
-        }
-    }
-    bytes.len()
+    bytes.iter().take_while(|byte| **byte == b' ').count()
 }
 
 // How many bytes stand before the next space or line feed.
@@ -22,12 +17,10 @@ fn word_length(bytes: &[u8]) -> usize
     ensures is { result ≡ word_length bytes.now }
     ensures within { result ≤ length bytes.now }
 {
-    for (n, byte) in bytes.iter().enumerate() {
-        if *byte == b' ' || *byte == b'\n' {
-            return n;
-        }
-    }
-    bytes.len()
+    bytes
+        .iter()
+        .take_while(|byte| **byte != b' ' && **byte != b'\n')
+        .count()
 }
 
 impl<'a> Reader<'a> {
@@ -45,6 +38,7 @@ impl<'a> Reader<'a> {
     }
 
     // The next word of the line, if it has one more: the words ahead lose their first.
+    // It is no `next` of an `Iterator`, whose one relation would have to say what these clauses say one by one.
     pub fn next_word(&mut self) -> Option<Part<'a>>
         ensures text { self.new.text.now ≡ self.old.text.now }
         ensures line { self.new.line ≡ self.old.line }
@@ -54,18 +48,19 @@ impl<'a> Reader<'a> {
         ensures ahead { MatchOption result (ahead_of self.old ≡ []) (λ part. ahead_of self.old ≡ (part.column, part.bytes.now) ∷ ahead_of self.new) }
     {
         let text = self.text;
-        let start = self.place + spaces(&text[self.place..]);
-        let end = start + word_length(&text[start..]);
-        let column = self.column + (start - self.place);
-        self.column = column + (end - start);
-        self.place = end;
-        if start == end {
+        let gap = spaces(&text[self.place..]);
+        let start = self.place + gap;
+        let length = word_length(&text[start..]);
+        let column = self.column + gap;
+        self.column = column + length;
+        self.place = start + length;
+        if length == 0 {
             return None;
         }
         Some(Part {
             line: self.line,
             column,
-            bytes: &text[start..end],
+            bytes: &text[start..self.place],
         })
     }
 }
