@@ -3,12 +3,12 @@ ghost use Rattle.packages.specs.Memory.{SameMemory};
 ghost use Rattle.sheet.specs.Views.{rows_of};
 ghost use Rattle.console.specs.Transcripts.{Transcript};
 
+use crate::lines::Lines;
 use crate::session::Session;
 use crate::telling::{finish, take_line};
 use packages::list::PackageList;
 use packages::package::Package;
 use std::alloc::{AllocError, Global};
-use words::lines::line_length;
 
 // What is printed of a whole text, line by line.
 pub fn transcribe<P: Package>(
@@ -26,23 +26,18 @@ pub fn transcribe<P: Package>(
     }
     let mut out = [0; 256];
     let mut session = Session::Idle;
-    let mut at = 0;
-    let mut line = 1;
-    while at < text.len() {
-        let end = at + line_length(&text[at..]);
-        let (next, written) = take_line(session, list, line, &text[at..end], &mut out);
+    for (at, line) in Lines(text).enumerate() {
+        let (next, written) = take_line(session, list, at + 1, line, &mut out);
         session = next;
         let Ok(n) = written else { unreachable() };
-        if let Err(error) = all.extend_from_slice(&out[0..n]) {
+        if let Err(error) = all.extend_from_slice(&out[..n]) {
             session.abandon();
             return Err(error);
         }
-        at = end + 1;
-        line += 1;
     }
     match finish(session, &mut out) {
         Ok(n) => {
-            all.extend_from_slice(&out[0..n])?;
+            all.extend_from_slice(&out[..n])?;
             Ok(all)
         }
         Err((back, _)) => {
