@@ -1,5 +1,5 @@
 -- The three categories of the handbook.
-use Rattle.std.specs.Prelude.{ℕ, Bool, cond, not, ◌&&◌, List, Some, None, Option, ◌==◌, nat_le, nat_lt}
+use Rattle.std.specs.Prelude.{ℕ, Bool, cond, if◌then◌else◌, not, ◌&&◌, List, Some, None, Option, ◌==◌, nat_le, nat_lt}
 use Rattle.decision.specs.declared.rule.Counted.{Counted}
 use Rattle.decision.specs.declared.rule.Counted.TheVariants.{Unreasonable, Short}
 use Rattle.kinds.specs.Handbook.{weight, count}
@@ -10,6 +10,10 @@ use Rattle.categories.specs.declared.plan.Plan.{Plan}
 use Rattle.categories.specs.declared.plan.Row.{Row}
 use Rattle.categories.specs.Meaning.{Sampling}
 use Rattle.categories.specs.Printed as printed
+
+-- the category that a letter names
+abbrev pub letter_of : ℕ → Option HandbookCategory
+letter_of letter = if letter == 65 then Some A else (if letter == 66 then Some B else (if letter == 67 then Some C else None))
 
 -- a count label of 50 or less
 abbrev pub low_count : List ℕ → ℕ → Bool

@@ -1,23 +1,36 @@
-ghost use Rattle.std.specs.Prelude.{◌≡◌, T};
-ghost use Rattle.categories.specs.Handbook.{handbook as meaning_of, low_count, takes as takes_of, row_of, plan_of, total as total_of, all_ascend};
+ghost use Rattle.std.specs.Prelude.{◌≡◌, T, Some, None, MatchResult};
+ghost use Rattle.categories.specs.Handbook.{handbook as meaning_of, letter_of, low_count, takes as takes_of, row_of, plan_of, total as total_of, all_ascend};
 ghost use Rattle.categories.specs.Bounds.{handbook_bounds};
 
 use crate::category::Category;
 use crate::plan::{Plan, Row};
-use crate::printed::{
-    A_ENDS, A_PAST, A_ROWS, A_TARE_ENDS, A_TARE_TOTALS, B_ENDS, B_PAST, B_ROWS, B_TARE_ENDS,
-    B_TARE_TOTALS, C_PAST, C_ROWS,
-};
+use crate::printed::{A, A_PAST, A_TARE, B, B_PAST, B_TARE, C, C_PAST};
+use crate::unknown::UnknownCategory;
 use decision::rule::{Counted, Rule};
 use kinds::words::{is_count, is_weight};
 use tables::reached;
 
 // The categories of the handbook: A for most lots, B for meat and poultry in a plant, C for low counts.
-#[derive(Clone, Copy)]
+#[derive(Clone, Copy, Debug, PartialEq, Eq)]
 pub enum HandbookCategory {
     A,
     B,
     C,
+}
+
+impl TryFrom<char> for HandbookCategory {
+    type Error = UnknownCategory;
+
+    ghost try_from_gives = { λ letter r. MatchResult r (λ category. letter_of letter ≡ Some category) (λ _. letter_of letter ≡ None) };
+
+    fn try_from(letter: char) -> Result<Self, UnknownCategory> {
+        match letter {
+            'A' => Ok(HandbookCategory::A),
+            'B' => Ok(HandbookCategory::B),
+            'C' => Ok(HandbookCategory::C),
+            _ => Err(UnknownCategory),
+        }
+    }
 }
 
 // A count label of 50 or less.
@@ -43,9 +56,9 @@ fn row_of(category: HandbookCategory, size: u32) -> Row
 {
     let size = u64::from(size);
     match category {
-        HandbookCategory::A => reached(&A_ENDS, &A_ROWS, A_PAST, size),
-        HandbookCategory::B => reached(&B_ENDS, &B_ROWS, B_PAST, size),
-        HandbookCategory::C => reached(&A_ENDS, &C_ROWS, C_PAST, size),
+        HandbookCategory::A => reached(&A, A_PAST, size),
+        HandbookCategory::B => reached(&B, B_PAST, size),
+        HandbookCategory::C => reached(&C, C_PAST, size),
     }
 }
 
@@ -76,12 +89,7 @@ fn total_of(category: HandbookCategory, row: Row, ratio: u64) -> u32
     let initial = row.initial;
     match category {
         HandbookCategory::A => {
-            let (of_12, of_24, of_48) = reached(
-                &A_TARE_ENDS,
-                &A_TARE_TOTALS,
-                (initial, initial, initial),
-                ratio,
-            );
+            let (of_12, of_24, of_48) = reached(&A_TARE, (initial, initial, initial), ratio);
             match row.sample {
                 12 => of_12,
                 24 => of_24,
@@ -90,7 +98,7 @@ fn total_of(category: HandbookCategory, row: Row, ratio: u64) -> u32
             }
         }
         HandbookCategory::B => {
-            let (of_10, of_30) = reached(&B_TARE_ENDS, &B_TARE_TOTALS, (initial, initial), ratio);
+            let (of_10, of_30) = reached(&B_TARE, (initial, initial), ratio);
             match row.sample {
                 10 => of_10,
                 30 => of_30,

@@ -4,3 +4,4 @@ pub mod category;
 pub mod handbook;
 pub mod plan;
 mod printed;
+pub mod unknown;

@@ -12,7 +12,7 @@ pub struct Plan {
 }
 
 // A row of a printed table of sampling plans.
-#[derive(Clone, Copy)]
+#[derive(Clone, Copy, Debug, PartialEq, Eq)]
 pub struct Row {
     pub sample: u32,
     // the sample correction factor, in thousandths

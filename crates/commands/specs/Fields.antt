@@ -1,11 +1,9 @@
 -- What one word of a line says, or its fault.
 use Rattle.std.specs.Prelude.{ℕ, cond, List, length, Some, None, Ok, Err, Option, Result, ◌==◌, slice_index}
-use Rattle.std.specs.Str.{bytes_eq}
+use Rattle.categories.specs.Handbook.{letter_of}
 use Rattle.categories.specs.declared.handbook.HandbookCategory.{HandbookCategory}
-use Rattle.categories.specs.declared.handbook.HandbookCategory.TheVariants.{A, B, C}
-use Rattle.kinds.specs.Handbook.{word}
+use Rattle.kinds.specs.Handbook.{kind_of}
 use Rattle.kinds.specs.declared.handbook.HandbookKind.{HandbookKind}
-use Rattle.kinds.specs.declared.handbook.HandbookKind.TheVariants.{Msi, Mus, Lsi, Cnt, Len, Are}
 use Rattle.words.specs.Lines.{Placed}
 use Rattle.words.specs.Numbers.{number_of}
 use Rattle.words.specs.Sorts.{is_dash}
@@ -30,20 +28,11 @@ some (Err e) = Err e
 abbrev pub label_in : ℕ → Placed → Result (Option ℕ) Fault
 label_in line w = cond (is_dash w.1) (Ok None) (some (number_in line w))
 
-abbrev pub letter_of : ℕ → Option HandbookCategory
-letter_of b = cond (b == 65) (Some A) (cond (b == 66) (Some B) (cond (b == 67) (Some C) None))
-
 abbrev pub category_of : List ℕ → Option HandbookCategory
 category_of bs = cond (length bs == 1) (letter_of (slice_index bs 0)) None
 
 abbrev pub category_in : ℕ → Placed → Result HandbookCategory Fault
 category_in line w = found line w.0 Unknown (category_of w.1)
-
-abbrev named : List ℕ → HandbookKind → Option HandbookKind → Option HandbookKind
-named bs k other = cond (bytes_eq bs (word k)) (Some k) other
-
-abbrev pub kind_of : List ℕ → Option HandbookKind
-kind_of bs = named bs Msi (named bs Mus (named bs Lsi (named bs Cnt (named bs Len (named bs Are None)))))
 
 abbrev pub kind_in : ℕ → Placed → Result HandbookKind Fault
 kind_in line w = found line w.0 Unknown (kind_of w.1)

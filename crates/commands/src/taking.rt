@@ -1,5 +1,7 @@
 ghost use Rattle.std.specs.Prelude.{◌≡◌};
-ghost use Rattle.commands.specs.Fields.{number_in, label_in, letter_of, category_in, kind_of, kind_in};
+ghost use Rattle.categories.specs.Handbook.{letter_of};
+ghost use Rattle.commands.specs.Fields.{number_in, label_in, category_in, kind_in};
+ghost use Rattle.kinds.specs.Handbook.{kind_of};
 
 use crate::fault::{Fault, Why};
 use categories::handbook::HandbookCategory;

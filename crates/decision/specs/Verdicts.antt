@@ -1,5 +1,5 @@
 -- The verdict on a sample, from its figures alone.
-use Rattle.std.specs.Prelude.{◌≡◌, ℕ, ◌-◌, ◌*◌, ◌/◌, ◌≤◌, Bool, true, cond, not, List, length, ℤ, pos, ◌-ℤ◌, ◌*ℤ◌, ◌<ℤ◌, int_le, int_lt, nat_lt, unsigned_abs}
+use Rattle.std.specs.Prelude.{◌≡◌, ℕ, ◌-◌, ◌*◌, ◌/◌, ◌≤◌, Bool, true, cond, not, List, length, codes, ℤ, pos, ◌-ℤ◌, ◌*ℤ◌, ◌<ℤ◌, int_le, int_lt, nat_lt, unsigned_abs}
 use Rattle.decision.specs.declared.outcome.Figures.{Figures}
 use Rattle.decision.specs.declared.outcome.Verdict.{Verdict}
 use Rattle.decision.specs.declared.outcome.Verdict.TheVariants.{Mav, Plan, Over, Average, Within}
@@ -37,6 +37,14 @@ Passes Plan = Unit {0}
 Passes Over = Unit {0}
 Passes Average = ⊥
 Passes Within = Unit {0}
+
+-- as a report says it
+abbrev pub verdict_word : Verdict → List ℕ
+verdict_word Mav = codes "mav"
+verdict_word Plan = codes "plan"
+verdict_word Over = codes "over"
+verdict_word Average = codes "average"
+verdict_word Within = codes "within"
 
 -- v is the largest whole number with v * v * n * (n - 1) ≤ x
 pub record Largest (n x v : ℕ) : Type 0 where

@@ -5,3 +5,4 @@ mod judging;
 pub mod measuring;
 pub mod outcome;
 pub mod rule;
+mod saying;

@@ -1,5 +1,5 @@
 // What is said of a lot. Plan, over and within pass.
-#[derive(Clone, Copy)]
+#[derive(Clone, Copy, Debug, PartialEq, Eq)]
 pub enum Verdict {
     // more packages count against the lot than are allowed
     Mav,
@@ -14,7 +14,7 @@ pub enum Verdict {
 }
 
 // What is counted and added up of a sample.
-#[derive(Clone, Copy)]
+#[derive(Clone, Copy, Debug, PartialEq, Eq)]
 pub struct Figures {
     pub sample: u32,
     pub total: i64,
@@ -23,7 +23,7 @@ pub struct Figures {
     pub unreasonable: u32,
 }
 
-#[derive(Clone, Copy)]
+#[derive(Clone, Copy, Debug, PartialEq, Eq)]
 pub struct Decision {
     pub figures: Figures,
     // how many packages count against the allowed number
@@ -35,7 +35,7 @@ pub struct Decision {
 }
 
 // Why a sample is not decided, in the order in which it is asked.
-#[derive(Clone, Copy)]
+#[derive(Clone, Copy, Debug, PartialEq, Eq)]
 pub enum Fault {
     // not 1 to 48 errors
     Count,

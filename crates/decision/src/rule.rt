@@ -1,12 +1,12 @@
 // Which packages count against the allowed number.
-#[derive(Clone, Copy)]
+#[derive(Clone, Copy, Debug, PartialEq, Eq)]
 pub enum Counted {
     Unreasonable,
     Short,
 }
 
 // How a sampling plan has a lot decided.
-#[derive(Clone, Copy)]
+#[derive(Clone, Copy, Debug, PartialEq, Eq)]
 pub struct Rule {
     // the average error is tested
     pub average: bool,

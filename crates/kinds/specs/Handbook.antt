@@ -1,5 +1,5 @@
 -- The six kinds of the handbook.
-use Rattle.std.specs.Prelude.{ℕ, Bool, true, false, ◌&&◌, ◌||◌, List, [], codes}
+use Rattle.std.specs.Prelude.{ℕ, Bool, true, false, ◌&&◌, ◌||◌, List, [], Option, Some, None, codes, if◌then◌else◌}
 use Rattle.std.specs.Str.{bytes_eq}
 use Rattle.tables.specs.Rows.{reached, ascending}
 use Rattle.kinds.specs.declared.entry.Entry.{Entry}
@@ -17,6 +17,13 @@ word Lsi = codes "lsi"
 word Cnt = codes "cnt"
 word Len = codes "len"
 word Are = codes "are"
+
+-- the kind that a word names
+abbrev pub named : List ℕ → HandbookKind → Option HandbookKind → Option HandbookKind
+named name kind other = if bytes_eq name (word kind) then Some kind else other
+
+abbrev pub kind_of : List ℕ → Option HandbookKind
+kind_of name = named name Msi (named name Mus (named name Lsi (named name Cnt (named name Len (named name Are None)))))
 
 -- the word of a weight, and of a count
 abbrev pub weight : List ℕ → Bool

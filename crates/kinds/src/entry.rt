@@ -1,5 +1,5 @@
 // What a row of a printed table allows.
-#[derive(Clone, Copy)]
+#[derive(Clone, Copy, Debug, PartialEq, Eq)]
 pub enum Entry {
     // so many base units
     Fixed(u64),

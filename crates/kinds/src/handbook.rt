@@ -1,21 +1,19 @@
-ghost use Rattle.std.specs.Prelude.{◌≡◌, T};
+ghost use Rattle.std.specs.Prelude.{◌≡◌, T, Some, None, MatchResult};
 ghost use Rattle.kinds.specs.Entries.{allowed as allowed_by};
-ghost use Rattle.kinds.specs.Handbook.{handbook as meaning_of, entry as entry_of, all_ascend};
+ghost use Rattle.kinds.specs.Handbook.{handbook as meaning_of, entry as entry_of, kind_of, all_ascend};
 ghost use Rattle.kinds.specs.Bounds.{handbook_bounds};
 
 use crate::entry::Entry;
 use crate::kind::Kind;
 use crate::label::Label;
-use crate::printed::{
-    CNT_ENDS, CNT_MAVS, LEN_ENDS, LEN_MAVS, LSI_ENDS, LSI_MAVS, MSI_ENDS, MSI_MAVS, MUS_ENDS,
-    MUS_MAVS,
-};
+use crate::printed::{CNT, LEN, LSI, MSI, MUS};
+use crate::unknown::UnknownKind;
 use rounding::nearest;
 use tables::reached;
 
 // The kinds of the handbook: weight in milligrams and in ten-thousandths of a pound, liquid volume in tenths of a
 // milliliter, count in items, length in millimeters, area in square centimeters.
-#[derive(Clone, Copy)]
+#[derive(Clone, Copy, Debug, PartialEq, Eq)]
 pub enum HandbookKind {
     Msi,
     Mus,
@@ -25,16 +23,34 @@ pub enum HandbookKind {
     Are,
 }
 
+impl TryFrom<&[u8]> for HandbookKind {
+    type Error = UnknownKind;
+
+    ghost try_from_gives = { λ word r. MatchResult r (λ kind. kind_of word.now ≡ Some kind) (λ _. kind_of word.now ≡ None) };
+
+    fn try_from(word: &[u8]) -> Result<Self, UnknownKind> {
+        match word {
+            b"msi" => Ok(HandbookKind::Msi),
+            b"mus" => Ok(HandbookKind::Mus),
+            b"lsi" => Ok(HandbookKind::Lsi),
+            b"cnt" => Ok(HandbookKind::Cnt),
+            b"len" => Ok(HandbookKind::Len),
+            b"are" => Ok(HandbookKind::Are),
+            _ => Err(UnknownKind),
+        }
+    }
+}
+
 fn entry_of(kind: HandbookKind, label: Label) -> Entry
     ensures { result ≡ entry_of kind label.units }
 {
     let units = label.units();
     match kind {
-        HandbookKind::Msi => reached(&MSI_ENDS, &MSI_MAVS, Entry::Tenths(20), units),
-        HandbookKind::Mus => reached(&MUS_ENDS, &MUS_MAVS, Entry::Tenths(20), units),
-        HandbookKind::Lsi => reached(&LSI_ENDS, &LSI_MAVS, Entry::Tenths(10), units),
-        HandbookKind::Cnt => reached(&CNT_ENDS, &CNT_MAVS, Entry::Whole(15), units),
-        HandbookKind::Len => reached(&LEN_ENDS, &LEN_MAVS, Entry::Tenths(50), units),
+        HandbookKind::Msi => reached(&MSI, Entry::Tenths(20), units),
+        HandbookKind::Mus => reached(&MUS, Entry::Tenths(20), units),
+        HandbookKind::Lsi => reached(&LSI, Entry::Tenths(10), units),
+        HandbookKind::Cnt => reached(&CNT, Entry::Whole(15), units),
+        HandbookKind::Len => reached(&LEN, Entry::Tenths(50), units),
         HandbookKind::Are => Entry::Tenths(30),
     }
 }

@@ -1,7 +1,7 @@
 ghost use Rattle.std.specs.Prelude.{◌≡◌, ◌^◌, ◌≤◌, MatchOption};
 
 // A label in base units, from 1 to 10^11.
-#[derive(Clone, Copy)]
+#[derive(Clone, Copy, Debug, PartialEq, Eq)]
 pub struct Label {
     units: u64,
     ghost range: { (1 ≤ units) × (units ≤ 10 ^ 11) },

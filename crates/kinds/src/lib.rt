@@ -5,4 +5,5 @@ pub mod handbook;
 pub mod kind;
 pub mod label;
 mod printed;
+pub mod unknown;
 pub mod words;

@@ -1,5 +1,8 @@
+ghost use Rattle.std.specs.Prelude.{◌≡◌};
+ghost use Rattle.lots.specs.Lots.{units};
+
 // An inspection lot. Labels are in divisions of the scale.
-#[derive(Clone, Copy)]
+#[derive(Clone, Copy, Debug, PartialEq, Eq)]
 pub struct Lot {
     // how many packages it has
     pub size: u32,
@@ -11,8 +14,18 @@ pub struct Lot {
     pub allowance: u32,
 }
 
+impl Lot {
+    // The label in base units, 0 in a random lot.
+    pub fn units(&self) -> u64
+        ensures { result ≡ units self.now.label self.now.division }
+    {
+        self.label
+            .map_or(0, |label| u64::from(label) * u64::from(self.division))
+    }
+}
+
 // Why a lot is not inspected, in the order in which it is asked.
-#[derive(Clone, Copy)]
+#[derive(Clone, Copy, Debug, PartialEq, Eq)]
 pub enum LotFault {
     // a number of it is out of range
     OutOfRange,

@@ -1,4 +1,4 @@
-ghost use Rattle.std.specs.Prelude.{◌≡◌, ◌*◌, cond, Some, None};
+ghost use Rattle.std.specs.Prelude.{◌≡◌, ◌&&◌, Some, nat_le};
 ghost use Rattle.lots.specs.Lots.{label_in_range, in_range, suits, package_mav, planned};
 
 use crate::lot::{Lot, LotFault};
@@ -11,21 +11,21 @@ use kinds::words::{is_count, is_weight};
 fn is_label(label: u32) -> bool
     ensures { result ≡ label_in_range (Some label) }
 {
-    1 <= label && label <= 999_999
+    (1..=999_999).contains(&label)
+}
+
+fn is_division(division: u32) -> bool
+    ensures { result ≡ (nat_le 1 division && nat_le division 100000) }
+{
+    (1..=100_000).contains(&division)
 }
 
 fn is_in_range(lot: Lot) -> bool
     ensures { result ≡ in_range lot }
 {
-    let labeled = match lot.label {
-        Some(label) => is_label(label),
-        None => true,
-    };
-    1 <= lot.size
-        && lot.size <= 1_000_000
-        && 1 <= lot.division
-        && lot.division <= 100_000
-        && labeled
+    (1..=1_000_000).contains(&lot.size)
+        && is_division(lot.division)
+        && lot.label.is_none_or(is_label)
         && lot.allowance <= 100
 }
 
@@ -48,25 +48,18 @@ pub fn plan_lot<C: Category, K: Kind>(category: &C, kind: &K, lot: Lot) -> Resul
     if !is_suited(word, lot) {
         return Err(LotFault::NotTaken);
     }
-    let units = match lot.label {
-        Some(label) => u64::from(label) * u64::from(lot.division),
-        None => 0,
-    };
-    match category.plan(lot.size, word, units) {
-        Some(plan) => Ok(plan),
-        None => Err(LotFault::NotTaken),
-    }
+    category
+        .plan(lot.size, word, lot.units())
+        .ok_or(LotFault::NotTaken)
 }
 
 // The MAV of a package by its label in divisions; none where label or division is out of range.
 pub fn package_mav<K: Kind>(kind: &K, division: u32, label: u32) -> Option<(u64, u16)>
     ensures { result ≡ package_mav (K.Kind.meaning kind.now) division label }
 {
-    if !is_label(label) || division < 1 || division > 100_000 {
+    if !is_label(label) || !is_division(division) {
         return None;
     }
-    let Some(units) = Label::new(u64::from(label) * u64::from(division)) else {
-        return None;
-    };
-    Some(kind.mav(units))
+    let label = Label::new(u64::from(label) * u64::from(division))?;
+    Some(kind.mav(label))
 }

@@ -1,17 +1,10 @@
 -- A printed table: rows, each with the largest amount that it reaches and what it gives.
-use Rattle.std.specs.Prelude.{ℕ, Bool, true, cond, ◌&&◌, List, [], ◌∷◌, nat_le, nat_lt}
-
--- the rows of a column of ends beside a column of values
-abbrev pub rows : {V : Type 0} → List ℕ → List V → List (ℕ × V)
-rows [] [] = []
-rows [] (v ∷ vs) = []
-rows (e ∷ es) [] = []
-rows (e ∷ es) (v ∷ vs) = (e, v) ∷ rows es vs
+use Rattle.std.specs.Prelude.{ℕ, Bool, true, if◌then◌else◌, ◌&&◌, List, [], ◌∷◌, nat_le, nat_lt}
 
 -- the first row that reaches the amount, and past the last row `past`
 unfoldable pub reached : {V : Type 0} → List (ℕ × V) → V → ℕ → V
 reached [] past amount = past
-reached (row ∷ rest) past amount = cond (nat_le amount row.0) row.1 (reached rest past amount)
+reached (row ∷ rest) past amount = if nat_le amount row.0 then row.1 else (reached rest past amount)
 
 -- each row reaches further than the one before
 abbrev pub above : {V : Type 0} → ℕ → List (ℕ × V) → Bool

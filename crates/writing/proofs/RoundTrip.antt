@@ -7,14 +7,14 @@ use Rattle.std.proofs.lemmas.Fmt.{digits_decimal, digits_value-decimal, length-d
 use Rattle.std.proofs.lemmas.Bool.{cases_Bool, cond-true, cond-false, and_parts, and_from, not_from_false, ne_eqb, leb-true, le-ltb, cases_lt}
 use Rattle.categories.specs.declared.handbook.HandbookCategory.{HandbookCategory}
 use Rattle.categories.specs.declared.handbook.HandbookCategory.TheVariants.{A, B, C}
-use Rattle.kinds.specs.Handbook.{word}
+use Rattle.kinds.specs.Handbook.{word, kind_of}
 use Rattle.kinds.specs.declared.handbook.HandbookKind.{HandbookKind}
 use Rattle.kinds.specs.declared.handbook.HandbookKind.TheVariants.{Msi, Mus, Lsi, Cnt, Len, Are}
 use Rattle.sheet.specs.declared.call.Call.TheVariants.{Weigh, Correct, Strike, Open, Settle, Reopen}
 use Rattle.commands.specs.declared.command.Command.{Command}
 use Rattle.commands.specs.declared.command.Command.TheVariants.{Lot, Call, End}
 use Rattle.commands.specs.declared.fault.Fault.{Fault}
-use Rattle.commands.specs.Fields.{label_in, category_of, kind_of}
+use Rattle.commands.specs.Fields.{label_in, category_of}
 use Rattle.commands.specs.Parsing.{by_words, reading}
 use Rattle.words.specs.Lines.{Placed, in_word, word_length, words}
 use Rattle.words.specs.Numbers.{number_of}

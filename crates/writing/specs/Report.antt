@@ -1,17 +1,9 @@
 -- The report of a closed record, and the line of a refusal.
 use Rattle.std.specs.Prelude.{ℕ, List, [], ◌∷◌, ◌++◌, codes, decimal}
 use Rattle.std.specs.Fmt.{signed_decimal}
-use Rattle.decision.specs.declared.outcome.Verdict.{Verdict}
-use Rattle.decision.specs.declared.outcome.Verdict.TheVariants.{Mav, Plan, Over, Average, Within}
+pub use Rattle.decision.specs.Verdicts.{verdict_word}
 use Rattle.sheet.specs.declared.record.Record.{Record}
 use Rattle.writing.specs.Bytes.{line}
-
-abbrev pub verdict_word : Verdict → List ℕ
-verdict_word Mav = codes "mav"
-verdict_word Plan = codes "plan"
-verdict_word Over = codes "over"
-verdict_word Average = codes "average"
-verdict_word Within = codes "within"
 
 abbrev pub report : Record → List ℕ
 report r =
