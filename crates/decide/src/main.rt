@@ -3,6 +3,7 @@
 // Decides lots from package errors typed on the standard input, and compares two lists of errors for one lot.
 mod printing;
 mod reading;
+mod undecided;
 mod working;
 
 use reading::Block;

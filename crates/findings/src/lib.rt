@@ -1,0 +1,4 @@
+#![tactic(auto)]
+
+pub mod consequences;
+pub mod outcome;
