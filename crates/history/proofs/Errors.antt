@@ -4,13 +4,14 @@ use Rattle.std.proofs.lemmas.Bool.{and_parts}
 use Rattle.decision.specs.Answer.{Decided, outside}
 use Rattle.packages.specs.declared.reading.Reading.{Reading}
 use Rattle.packages.specs.declared.reading.Reading.TheVariants.{Empty, Weighed, Opened}
+use Rattle.packages.specs.Readings.{gross_of}
 use Rattle.sheet.specs.declared.call.Phase.{Phase}
 use Rattle.sheet.specs.declared.call.Phase.TheVariants.{Unsettled, Settled}
 use Rattle.sheet.specs.declared.refusal.Refusal.{Refusal}
 use Rattle.sheet.specs.declared.refusal.Refusal.TheVariants as why
 use Rattle.sheet.specs.Closing.{complete, all_complete, package_error, errors, mavs, closing}
 use Rattle.sheet.specs.Steps.{label_fits}
-use Rattle.sheet.specs.Tare.{gross_of, label_of}
+use Rattle.sheet.specs.Tare.{label_of}
 use Rattle.sheet.specs.Terms.{Terms}
 use Rattle.history.specs.Memory.{Weighing, weighing, each, label_at, error_at, errors_of, mavs_of, last_tare, last_weighing}
 use Rattle.history.specs.Rule.{Remembers, new_run}

@@ -1,4 +1,5 @@
 ghost use Rattle.std.specs.Prelude.{◌≡◌, length};
+ghost use Rattle.packages.specs.Memory.{SameMemory};
 ghost use Rattle.sheet.specs.Views.{rows_of};
 ghost use Rattle.history.specs.Contest.{start as start_of, Ends, Ruled};
 ghost use Rattle.history.specs.Setups.{setup_of};
@@ -19,8 +20,7 @@ pub fn start_and_run<C: Category + Drop, K: Kind + Drop, P: Package>(
     entries: &[Entry],
 ) -> Ending<C, K>
     ensures ends { Ends (setup_of C.Category K.Kind P.Package start entries.now list.old) (start_of (setup_of C.Category K.Kind P.Package start entries.now list.old)) result (rows_of P.Package list.new) }
-    ensures lends { list.new.places.ghost_name ≡ list.old.places.ghost_name }
-    ensures len { length list.new.places.now ≡ length list.old.places.now }
+    ensures memory { SameMemory list.old.places list.new.places }
 {
     let Start {
         category,
@@ -55,7 +55,7 @@ pub fn contest<
     ensures first { Ends (setup_of C.Category K.Kind P.Package first entries.now places.old) (start_of (setup_of C.Category K.Kind P.Package first entries.now places.old)) result.0 (rows_of P.Package places.new) }
     ensures second { Ends (setup_of D.Category L.Kind Q.Package second more.now others.old) (start_of (setup_of D.Category L.Kind Q.Package second more.now others.old)) result.1 (rows_of Q.Package others.new) }
     ensures rule { Ruled (setup_of C.Category K.Kind P.Package first entries.now places.old) (setup_of D.Category L.Kind Q.Package second more.now others.old) result.0 result.1 }
-    ensures lends { (places.new.places.ghost_name ≡ places.old.places.ghost_name) × (others.new.places.ghost_name ≡ others.old.places.ghost_name) }
+    ensures memory { (SameMemory places.old.places places.new.places) × (SameMemory others.old.places others.new.places) }
 {
     let one = start_and_run(first, places, entries);
     let two = start_and_run(second, others, more);

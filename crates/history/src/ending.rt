@@ -6,6 +6,7 @@ use sheet::refusal::Refusal;
 use sheet::sheet::Sheet;
 
 // What a sheet is started from.
+#[derive(Clone, Copy, Debug, PartialEq, Eq)]
 pub struct Start<C: Category, K: Kind> {
     pub category: C,
     pub kind: K,

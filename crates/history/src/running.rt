@@ -1,4 +1,5 @@
 ghost use Rattle.std.specs.Prelude.{◌≡◌, ◌≤◌, length};
+ghost use Rattle.packages.specs.Memory.{SameMemory};
 ghost use Rattle.sheet.specs.Views.{rows_of, terms_of};
 ghost use Rattle.history.specs.Runs.{run as run_of};
 ghost use Rattle.history.specs.Turns.{Turned, Runs};
@@ -19,8 +20,7 @@ pub fn turn<C: Category + Drop, K: Kind + Drop, P: Package>(
     entry: Entry,
 ) -> Result<Record, (Sheet<C, K>, Option<Refusal>)>
     ensures turned { Turned (terms_of C.Category K.Kind P.Package sheet) sheet (rows_of P.Package list.old) entry result (rows_of P.Package list.new) }
-    ensures lends { list.new.places.ghost_name ≡ list.old.places.ghost_name }
-    ensures len { length list.new.places.now ≡ length list.old.places.now }
+    ensures memory { SameMemory list.old.places list.new.places }
 {
     match entry {
         Entry::Close => match sheet.close(list) {
@@ -44,8 +44,7 @@ pub fn run<C: Category + Drop, K: Kind + Drop, P: Package>(
     entries: &[Entry],
 ) -> Result<Record, Sheet<C, K>>
     ensures runs { Runs (terms_of C.Category K.Kind P.Package sheet) (run_of (terms_of C.Category K.Kind P.Package sheet) entries.now sheet.phase (rows_of P.Package list.old)) sheet result (rows_of P.Package list.new) }
-    ensures lends { list.new.places.ghost_name ≡ list.old.places.ghost_name }
-    ensures len { length list.new.places.now ≡ length list.old.places.now }
+    ensures memory { SameMemory list.old.places list.new.places }
 {
     let mut sheet = sheet;
     for entry in entries {

@@ -1,1 +1,2 @@
 pub mod Emptied
+pub mod Lent

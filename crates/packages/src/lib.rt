@@ -2,5 +2,6 @@
 
 pub mod list;
 pub mod package;
+mod parts;
 pub mod reading;
 pub mod records;

@@ -1,5 +1,6 @@
-ghost use Rattle.std.specs.Prelude.{◌≡◌, map, length, slice_index_or, slice_set};
+ghost use Rattle.std.specs.Prelude.{◌≡◌, ◌<◌, ◌≤◌, map, length, take, slice_index_or, slice_set, MatchOption};
 ghost use Rattle.packages.specs.declared.reading.Reading.TheVariants.{Empty};
+ghost use Rattle.packages.specs.Memory.{SameMemory};
 ghost use Rattle.packages.specs.Readings.{stored, emptied};
 
 use crate::package::Package;
@@ -14,16 +15,13 @@ pub struct PackageList<'a, P: Package> {
 fn read_at<P: Package>(places: &[P], place: usize) -> Reading
     ensures { result ≡ slice_index_or (map P.Package.reading places.now) place Empty }
 {
-    if place < places.len() {
-        places[place].read()
-    } else {
-        Reading::Empty
-    }
+    places.get(place).map_or(Reading::Empty, |held| held.read())
 }
 
 fn put_at<P: Package>(places: &mut [P], place: usize, reading: Reading)
     ensures { map P.Package.reading places.new ≡ slice_set (map P.Package.reading places.old) place (stored P.Package.labeled reading) }
 {
+    // by index: of what is written through `get_mut` a proof knows the length alone
     if place < places.len() {
         places[place] = P::holding(reading);
     }
@@ -32,8 +30,11 @@ fn put_at<P: Package>(places: &mut [P], place: usize, reading: Reading)
 fn empty_first<P: Package>(places: &mut [P], count: usize)
     ensures { map P.Package.reading places.new ≡ emptied count (map P.Package.reading places.old) }
 {
-    for i in 0..count {
-        put_at(places, i, Reading::Empty);
+    // no `fill`: of a record that is `Copy` no proof knows that its clone is itself
+    let count = count.min(places.len());
+    let (first, _) = places.split_at_mut(count);
+    for place in first.iter_mut() {
+        *place = P::holding(Reading::Empty);
     }
 }
 
@@ -51,6 +52,14 @@ impl<'a, P: Package> PackageList<'a, P> {
         self.places.len()
     }
 
+    // The first so many places, if there are as many.
+    pub fn first(&self, count: usize) -> Option<&[P]>
+        ensures { MatchOption result (length self.now.places.now < count)
+            (λ places. (places.now ≡ take count self.now.places.now) × (count ≤ length self.now.places.now)) }
+    {
+        self.places.get(..count)
+    }
+
     // Empty where there is no such place.
     pub fn at(&self, place: usize) -> Reading
         ensures { result ≡ slice_index_or (map P.Package.reading self.now.places.now) place Empty }
@@ -60,8 +69,7 @@ impl<'a, P: Package> PackageList<'a, P> {
 
     // Nothing changes where there is no such place.
     pub fn put(&mut self, place: usize, reading: Reading)
-        ensures lends { self.new.places.ghost_name ≡ self.old.places.ghost_name }
-        ensures len { length self.new.places.now ≡ length self.old.places.now }
+        ensures memory { SameMemory self.old.places self.new.places }
         ensures after { map P.Package.reading self.new.places.now ≡ slice_set (map P.Package.reading self.old.places.now) place (stored P.Package.labeled reading) }
     {
         put_at(self.places, place, reading)
@@ -69,8 +77,7 @@ impl<'a, P: Package> PackageList<'a, P> {
 
     // Empties the first places, as many as there are.
     pub fn empty(&mut self, count: usize)
-        ensures lends { self.new.places.ghost_name ≡ self.old.places.ghost_name }
-        ensures len { length self.new.places.now ≡ length self.old.places.now }
+        ensures memory { SameMemory self.old.places self.new.places }
         ensures after { map P.Package.reading self.new.places.now ≡ emptied count (map P.Package.reading self.old.places.now) }
     {
         empty_first(self.places, count)

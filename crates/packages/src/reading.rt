@@ -1,5 +1,5 @@
 // What a place of the package list holds. Weights and labels are in divisions.
-#[derive(Clone, Copy)]
+#[derive(Clone, Copy, Debug, PartialEq, Eq)]
 pub enum Reading {
     Empty,
     Weighed {

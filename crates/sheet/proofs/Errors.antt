@@ -7,8 +7,9 @@ use Rattle.decision.specs.Answer.{outside}
 use Rattle.decision.proofs.Ranges.{outside_found, outside_none}
 use Rattle.lots.specs.declared.lot.Lot.{Lot}
 use Rattle.packages.specs.declared.reading.Reading.{Reading}
+use Rattle.packages.specs.Readings.{gross_of}
 use Rattle.sheet.specs.Closing.{lot_error}
-use Rattle.sheet.specs.Tare.{gross_of, label_by}
+use Rattle.sheet.specs.Tare.{label_by}
 use Rattle.sheet.proofs.Filling.{at_first}
 
 -- an error, as the code has it

@@ -6,7 +6,8 @@ use Rattle.std.proofs.lemmas.Bool.Decides.{nat_tests}
 use Rattle.packages.specs.declared.reading.Reading.{Reading}
 use Rattle.packages.specs.declared.reading.Reading.TheVariants.{Empty, Weighed, Opened}
 use Rattle.rounding.specs.Nearest.{nearest, NearestLaw}
-use Rattle.sheet.specs.Tare.{tare_of, tare_sum, average_of, is_opened, all_opened}
+use Rattle.packages.specs.Readings.{tare_of}
+use Rattle.sheet.specs.Tare.{tare_sum, average_of, is_opened, all_opened}
 
 tare_sum_push : (rows : List Reading) (r : Reading) → tare_sum (rows ++ r ∷ []) ≡ tare_sum rows + tare_of r
 tare_sum_push [] r = omega arith

@@ -4,6 +4,7 @@ use Rattle.decision.specs.Answer.{Decided, outside}
 use Rattle.lots.specs.declared.lot.Lot.{Lot}
 use Rattle.packages.specs.declared.reading.Reading.{Reading}
 use Rattle.packages.specs.declared.reading.Reading.TheVariants.{Empty, Weighed, Opened}
+use Rattle.packages.specs.Readings.{gross_of}
 use Rattle.sheet.specs.declared.call.Phase.{Phase}
 use Rattle.sheet.specs.declared.call.Phase.TheVariants as phase
 use Rattle.sheet.specs.declared.record.Record.{Record}
@@ -11,7 +12,7 @@ use Rattle.sheet.specs.declared.refusal.Refusal.{Refusal}
 use Rattle.sheet.specs.declared.refusal.Refusal.TheVariants as why
 use Rattle.sheet.specs.declared.sheet.Sheet.{Sheet}
 use Rattle.sheet.specs.Steps.{label_fits}
-use Rattle.sheet.specs.Tare.{gross_of, label_of, label_by}
+use Rattle.sheet.specs.Tare.{label_of, label_by}
 use Rattle.sheet.specs.Terms.{Terms}
 
 -- weighed, with the label that belongs there

@@ -1,5 +1,7 @@
 -- The number of each refusal, the letter of its layer and the values that it carries.
 use Rattle.std.specs.Prelude.{ℕ, List, [], ◌∷◌}
+use Rattle.lots.specs.declared.lot.LotFault.{LotFault}
+use Rattle.lots.specs.declared.lot.LotFault.TheVariants.{OutOfRange, NotTaken}
 use Rattle.sheet.specs.declared.refusal.Refusal.{Refusal}
 use Rattle.sheet.specs.declared.refusal.Refusal.TheVariants as why
 
@@ -8,6 +10,11 @@ pub record Account : Type 0 where
   -- P, put at starting, or S, put to the sheet
   pub letter : ℕ
   pub values : List ℕ
+
+-- why a lot is not inspected
+abbrev pub lot_refusal : LotFault → Refusal
+lot_refusal OutOfRange = why.LotRange
+lot_refusal NotTaken = why.NotTaken
 
 abbrev starting : ℕ → Account
 starting number = record { number = number; letter = 80; values = [] }

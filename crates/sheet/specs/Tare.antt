@@ -1,9 +1,10 @@
 -- How the tare is settled.
-use Rattle.std.specs.Prelude.{ℕ, ◌+◌, ◌*◌, ◌/◌, Bool, true, false, cond, not, ◌&&◌, List, [], ◌∷◌, map, take, ℤ, pos, ◌-ℤ◌, is_some, None, Ok, Err, fold, Option, Result, ◌==◌, nat_le, unsigned_abs}
+use Rattle.std.specs.Prelude.{ℕ, ◌+◌, ◌*◌, ◌/◌, Bool, true, false, cond, not, ◌&&◌, List, [], ◌∷◌, map, take, ℤ, pos, ◌-ℤ◌, is_some, Ok, Err, fold, Option, Result, ◌==◌, nat_le, unsigned_abs}
 use Rattle.std.specs.Int.{int_max, int_min}
 use Rattle.std.specs.Option.{unwrap_or}
 use Rattle.packages.specs.declared.reading.Reading.{Reading}
 use Rattle.packages.specs.declared.reading.Reading.TheVariants.{Empty, Weighed, Opened}
+use Rattle.packages.specs.Readings.{gross_of, tare_of, own_label}
 use Rattle.rounding.specs.Nearest.{nearest}
 use Rattle.sheet.specs.declared.call.Phase.{Phase}
 use Rattle.sheet.specs.declared.call.Phase.TheVariants as phase
@@ -11,21 +12,6 @@ use Rattle.sheet.specs.declared.refusal.Refusal.{Refusal}
 use Rattle.sheet.specs.declared.refusal.Refusal.TheVariants as why
 use Rattle.sheet.specs.Steps.{Outcome, taken, refused}
 use Rattle.sheet.specs.Terms.{Terms}
-
-abbrev pub gross_of : Reading → ℕ
-gross_of Empty = 0
-gross_of (Weighed g l) = g
-gross_of (Opened g l tare) = g
-
-abbrev pub tare_of : Reading → ℕ
-tare_of Empty = 0
-tare_of (Weighed g l) = 0
-tare_of (Opened g l tare) = tare
-
-abbrev pub own_label : Reading → Option ℕ
-own_label Empty = None
-own_label (Weighed g l) = l
-own_label (Opened g l tare) = l
 
 -- the package's own label on a random sheet, else the sheet's
 abbrev pub label_of : Terms → Reading → ℕ

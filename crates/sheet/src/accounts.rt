@@ -1,8 +1,20 @@
 ghost use Rattle.std.specs.Prelude.{◌≡◌};
 ghost use Rattle.std.specs.Option.{option_to_list};
-ghost use Rattle.sheet.specs.Refusals.{account};
+ghost use Rattle.sheet.specs.Refusals.{account, lot_refusal};
 
 use crate::refusal::Refusal;
+use lots::lot::LotFault;
+
+impl From<LotFault> for Refusal {
+    ghost from_gives = { λ fault e. e ≡ lot_refusal fault };
+
+    fn from(fault: LotFault) -> Refusal {
+        match fault {
+            LotFault::OutOfRange => Refusal::LotRange,
+            LotFault::NotTaken => Refusal::NotTaken,
+        }
+    }
+}
 
 impl Refusal {
     // The number of the question that was answered by no.

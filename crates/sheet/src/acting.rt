@@ -1,4 +1,5 @@
 ghost use Rattle.std.specs.Prelude.{◌≡◌, ℕ, ◌≤◌, true, length};
+ghost use Rattle.packages.specs.Memory.{SameMemory};
 ghost use Rattle.sheet.specs.Calls.{place_of, placed as placed_by, weighable as weighable_by, thawed, step as step_by};
 ghost use Rattle.sheet.specs.Steps.{Follows};
 ghost use Rattle.sheet.specs.Views.{rows_of, terms_of, Kept};
@@ -52,8 +53,7 @@ impl<C: Category, K: Kind> Sheet<C, K> {
         requires call_value { placed_by self.old.plan.sample (place_of call) ≡ true }
         ensures step { Follows (thawed (terms_of C.Category K.Kind P.Package self.old) self.old.phase (rows_of P.Package list.old) call) self.old.phase (rows_of P.Package list.old) result self.new.phase (rows_of P.Package list.new) }
         ensures kept { Kept self.old self.new }
-        ensures lends { list.new.places.ghost_name ≡ list.old.places.ghost_name }
-        ensures len { length list.new.places.now ≡ length list.old.places.now }
+        ensures memory { SameMemory list.old.places list.new.places }
     {
         match (self.phase, call) {
             (
@@ -98,8 +98,7 @@ impl<C: Category, K: Kind> Sheet<C, K> {
     pub fn act<P: Package>(&mut self, list: &mut PackageList<P>, call: Call) -> Result<(), Refusal>
         ensures step { Follows (step_by (terms_of C.Category K.Kind P.Package self.old) self.old.phase (rows_of P.Package list.old) call) self.old.phase (rows_of P.Package list.old) result self.new.phase (rows_of P.Package list.new) }
         ensures kept { Kept self.old self.new }
-        ensures lends { list.new.places.ghost_name ≡ list.old.places.ghost_name }
-        ensures len { length list.new.places.now ≡ length list.old.places.now }
+        ensures memory { SameMemory list.old.places list.new.places }
     {
         if list.len() < self.plan.sample as usize {
             return Err(Refusal::FewPlaces);

@@ -1,12 +1,12 @@
 // Whether the tare is settled: from how many packages, and what it is on average.
-#[derive(Clone, Copy)]
+#[derive(Clone, Copy, Debug, PartialEq, Eq)]
 pub enum Phase {
     Unsettled,
     Settled { total: u32, average: u32 },
 }
 
 // A call on an open sheet. Places count from 1.
-#[derive(Clone, Copy)]
+#[derive(Clone, Copy, Debug, PartialEq, Eq)]
 pub enum Call {
     Weigh {
         place: u32,

@@ -2,13 +2,14 @@ ghost use Rattle.std.specs.Prelude.{◌≡◌, ◌≤◌, true, length, take, is
 ghost use Rattle.decision.specs.Answer.{outside};
 ghost use Rattle.packages.specs.declared.reading.Reading.TheVariants.{Empty};
 ghost use Rattle.sheet.specs.Closing.{all_complete, lot_error, errors as errors_of, mavs as mavs_of, Judges, Closes};
+ghost use Rattle.sheet.specs.Tare.{label_by};
 ghost use Rattle.sheet.specs.Views.{rows_of, terms_of};
 
 use crate::call::Phase;
 use crate::placing::is_label;
 use crate::record::Record;
 use crate::refusal::Refusal;
-use crate::settling::{gross_of, label_of};
+use crate::settling::gross_of;
 use crate::sheet::Sheet;
 use categories::category::Category;
 use decision::deciding::decide;
@@ -18,6 +19,13 @@ use lots::planning::package_mav;
 use packages::list::PackageList;
 use packages::package::Package;
 use packages::reading::Reading;
+
+// The package's own label on a random sheet, else the sheet's.
+pub fn label_of(sheet: Option<u32>, reading: Reading) -> u32
+    ensures { result ≡ label_by sheet reading }
+{
+    sheet.or(reading.label()).unwrap_or(0)
+}
 
 // Gross less label less average tare, and the moisture that is allowed for.
 pub fn package_error(lot: Lot, average: u32, reading: Reading) -> i64

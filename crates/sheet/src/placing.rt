@@ -1,5 +1,6 @@
 ghost use Rattle.std.specs.Prelude.{◌≡◌, ◌-◌, ◌≤◌, length, slice_index_or};
 ghost use Rattle.packages.specs.declared.reading.Reading.TheVariants.{Empty};
+ghost use Rattle.packages.specs.Memory.{SameMemory};
 ghost use Rattle.sheet.specs.declared.call.Phase.{Phase};
 ghost use Rattle.sheet.specs.Steps.{Follows, label_fits, weigh_on, correct_on, strike_on, open_on};
 ghost use Rattle.sheet.specs.Terms.{Terms};
@@ -29,8 +30,7 @@ pub(crate) fn weigh<P: Package>(
 ) -> Result<(), Refusal>
     requires { 1 ≤ place }
     ensures step { (t : Terms) (ph : Phase) → t.labeled ≡ P.Package.labeled → Follows (weigh_on t ph (rows_of P.Package list.old) place gross label (slice_index_or (rows_of P.Package list.old) (place - 1) Empty)) ph (rows_of P.Package list.old) result ph (rows_of P.Package list.new) }
-    ensures lends { list.new.places.ghost_name ≡ list.old.places.ghost_name }
-    ensures len { length list.new.places.now ≡ length list.old.places.now }
+    ensures memory { SameMemory list.old.places list.new.places }
 {
     let i = place as usize - 1;
     match list.at(i) {
@@ -51,8 +51,7 @@ pub(crate) fn correct<P: Package>(
 ) -> Result<(), Refusal>
     requires { 1 ≤ place }
     ensures step { (t : Terms) (ph : Phase) → t.labeled ≡ P.Package.labeled → Follows (correct_on t ph (rows_of P.Package list.old) place gross label (slice_index_or (rows_of P.Package list.old) (place - 1) Empty)) ph (rows_of P.Package list.old) result ph (rows_of P.Package list.new) }
-    ensures lends { list.new.places.ghost_name ≡ list.old.places.ghost_name }
-    ensures len { length list.new.places.now ≡ length list.old.places.now }
+    ensures memory { SameMemory list.old.places list.new.places }
 {
     let i = place as usize - 1;
     match list.at(i) {
@@ -69,8 +68,7 @@ pub(crate) fn correct<P: Package>(
 pub(crate) fn strike<P: Package>(list: &mut PackageList<P>, place: u32) -> Result<(), Refusal>
     requires { 1 ≤ place }
     ensures step { (t : Terms) (ph : Phase) → t.labeled ≡ P.Package.labeled → Follows (strike_on t ph (rows_of P.Package list.old) place (slice_index_or (rows_of P.Package list.old) (place - 1) Empty)) ph (rows_of P.Package list.old) result ph (rows_of P.Package list.new) }
-    ensures lends { list.new.places.ghost_name ≡ list.old.places.ghost_name }
-    ensures len { length list.new.places.now ≡ length list.old.places.now }
+    ensures memory { SameMemory list.old.places list.new.places }
 {
     let i = place as usize - 1;
     match list.at(i) {
@@ -90,8 +88,7 @@ pub(crate) fn open<P: Package>(
 ) -> Result<(), Refusal>
     requires { 1 ≤ place }
     ensures step { (t : Terms) (ph : Phase) → t.labeled ≡ P.Package.labeled → Follows (open_on t ph (rows_of P.Package list.old) place tare (slice_index_or (rows_of P.Package list.old) (place - 1) Empty)) ph (rows_of P.Package list.old) result ph (rows_of P.Package list.new) }
-    ensures lends { list.new.places.ghost_name ≡ list.old.places.ghost_name }
-    ensures len { length list.new.places.now ≡ length list.old.places.now }
+    ensures memory { SameMemory list.old.places list.new.places }
 {
     let i = place as usize - 1;
     let (gross, label) = match list.at(i) {

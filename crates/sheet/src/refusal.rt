@@ -1,5 +1,5 @@
 // Why a start or a call is refused.
-#[derive(Clone, Copy)]
+#[derive(Clone, Copy, Debug, PartialEq, Eq)]
 pub enum Refusal {
     // a number of the lot is out of range
     LotRange,

@@ -1,9 +1,11 @@
 ghost use Rattle.std.specs.Prelude.{◌≡◌, ◌-◌, ◌*◌, ◌^◌, ◌≤◌, map, length, take, pos, ◌-ℤ◌, if◌then◌else◌, unsigned_abs};
 ghost use Rattle.std.specs.Int.{int_max, int_min};
-ghost use Rattle.sheet.specs.Tare.{gross_of, tare_of, label_by, range as range_of, all_opened, total_for, tare_sum, average_of, settling as settling_by};
+ghost use Rattle.packages.specs.Readings.{gross_of, tare_of};
+ghost use Rattle.sheet.specs.Tare.{label_by, range as range_of, all_opened, total_for, tare_sum, average_of, settling as settling_by};
 ghost use Rattle.sheet.specs.Views.{rows_of, terms_of};
 
 use crate::call::Phase;
+use crate::closing::label_of;
 use crate::refusal::Refusal;
 use crate::sheet::Sheet;
 use categories::category::Category;
@@ -28,19 +30,6 @@ fn tare_of(reading: Reading) -> u32
     match reading {
         Reading::Empty | Reading::Weighed { .. } => 0,
         Reading::Opened { tare, .. } => tare,
-    }
-}
-
-// The package's own label on a random sheet, else the sheet's.
-pub(crate) fn label_of(sheet: Option<u32>, reading: Reading) -> u32
-    ensures { result ≡ label_by sheet reading }
-{
-    match (sheet, reading) {
-        (Some(label), _) => label,
-        (None, Reading::Weighed { label, .. } | Reading::Opened { label, .. }) => {
-            label.unwrap_or(0)
-        }
-        (None, Reading::Empty) => 0,
     }
 }
 

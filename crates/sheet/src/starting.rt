@@ -1,5 +1,6 @@
 ghost use Rattle.std.specs.Prelude.{◌≡◌, length};
 ghost use Rattle.lots.specs.Lots.{planned};
+ghost use Rattle.packages.specs.Memory.{SameMemory};
 ghost use Rattle.sheet.specs.Starts.{starting as starting_by, Starts};
 ghost use Rattle.sheet.specs.Views.{rows_of};
 
@@ -8,7 +9,7 @@ use crate::refusal::Refusal;
 use crate::sheet::Sheet;
 use categories::category::Category;
 use kinds::kind::Kind;
-use lots::lot::{Lot, LotFault};
+use lots::lot::Lot;
 use lots::planning::plan_lot;
 use packages::list::PackageList;
 use packages::package::Package;
@@ -22,14 +23,9 @@ impl<C: Category + Drop, K: Kind + Drop> Sheet<C, K> {
         list: &mut PackageList<P>,
     ) -> Result<Sheet<C, K>, Refusal>
         ensures starts { Starts category kind lot (starting_by (planned (C.Category.meaning category) (K.Kind.meaning kind) lot) (length list.old.places.now)) (rows_of P.Package list.old) result (rows_of P.Package list.new) }
-        ensures lends { list.new.places.ghost_name ≡ list.old.places.ghost_name }
-        ensures len { length list.new.places.now ≡ length list.old.places.now }
+        ensures memory { SameMemory list.old.places list.new.places }
     {
-        let plan = match plan_lot(&category, &kind, lot) {
-            Ok(plan) => plan,
-            Err(LotFault::OutOfRange) => return Err(Refusal::LotRange),
-            Err(LotFault::NotTaken) => return Err(Refusal::NotTaken),
-        };
+        let plan = plan_lot(&category, &kind, lot)?;
         if list.len() < plan.sample as usize {
             return Err(Refusal::FewPlaces);
         }

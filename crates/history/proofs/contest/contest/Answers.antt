@@ -10,5 +10,5 @@ returns g c = record {
       (setup_of g.C.Category g.K.Kind g.P.Package c.args.first c.args.entries.now c.args.places.now)
       (setup_of g.D.Category g.L.Kind g.Q.Package c.args.second c.args.more.now c.args.others.now)
       _ _ _ _ c.start_and_run-one.ensures.ends c.start_and_run-two.ensures.ends;
-  lends = (c.start_and_run-one.ensures.lends, c.start_and_run-two.ensures.lends);
+  memory = (c.start_and_run-one.ensures.memory, c.start_and_run-two.ensures.memory);
 }

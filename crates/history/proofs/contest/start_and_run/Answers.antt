@@ -1,5 +1,6 @@
-use Rattle.std.proofs.Common.{length, Ok, Err, ◌∙◌}
+use Rattle.std.proofs.Common.{length, Ok, Err}
 use Rattle.lots.specs.Lots.{planned}
+use Rattle.packages.proofs.Lent.{same_memory_trans}
 use Rattle.sheet.specs.Starts.{starting}
 use Rattle.sheet.specs.Views.{rows_of, terms_of}
 use Rattle.history.specs.Setups.{setup_of}
@@ -10,8 +11,7 @@ pub returns-in-Err : goal.returns-in-Err
 returns-in-Err g c = record {
   ends = refused_ends (setup_of g.C.Category g.K.Kind g.P.Package c.args.start c.args.entries.now c.args.list.now) c.args.start.category c.args.start.kind (starting (planned (g.C.Category.meaning c.args.start.category) (g.K.Kind.meaning c.args.start.kind) c.args.start.lot) (length (rows_of g.P.Package c.args.list.now))) c.in-Err.refusal (rows_of g.P.Package c.start.new.list)
       (start_length g.P.Package c.args.start.category c.args.start.kind c.args.start.lot (planned (g.C.Category.meaning c.args.start.category) (g.K.Kind.meaning c.args.start.kind) c.args.start.lot) c.args.list.now (Err c.in-Err.refusal) (rows_of g.P.Package c.args.list.now) (rows_of g.P.Package c.start.new.list) c.in-Err.ensures.starts);
-  lends = c.in-Err.ensures.lends;
-  len = c.in-Err.ensures.len;
+  memory = c.in-Err.ensures.memory;
 }
 
 pub returns-in-Ok-run : goal.returns-in-Ok-run
@@ -21,8 +21,7 @@ returns-in-Ok-run g c = record {
       (terms_new g.C.Category g.K.Kind g.P.Package c.in-Ok.sheet c.args.start c.args.entries.now c.args.list.now)
       (start_length g.P.Package c.args.start.category c.args.start.kind c.args.start.lot (planned (g.C.Category.meaning c.args.start.category) (g.K.Kind.meaning c.args.start.kind) c.args.start.lot) c.args.list.now (Ok c.in-Ok.sheet) (rows_of g.P.Package c.args.list.now) (rows_of g.P.Package c.start.new.list) c.in-Ok.ensures.starts)
       c.in-Ok-run.ensures.runs;
-  lends = c.in-Ok-run.ensures.lends ∙ c.in-Ok.ensures.lends;
-  len = c.in-Ok-run.ensures.len ∙ c.in-Ok.ensures.len;
+  memory = same_memory_trans _ _ _ c.in-Ok.ensures.memory c.in-Ok-run.ensures.memory;
 }
 
 pub returns-in-Err-run : goal.returns-in-Err-run
@@ -32,6 +31,5 @@ returns-in-Err-run g c = record {
       (terms_new g.C.Category g.K.Kind g.P.Package c.in-Ok.sheet c.args.start c.args.entries.now c.args.list.now)
       (start_length g.P.Package c.args.start.category c.args.start.kind c.args.start.lot (planned (g.C.Category.meaning c.args.start.category) (g.K.Kind.meaning c.args.start.kind) c.args.start.lot) c.args.list.now (Ok c.in-Ok.sheet) (rows_of g.P.Package c.args.list.now) (rows_of g.P.Package c.start.new.list) c.in-Ok.ensures.starts)
       c.in-Err-run.ensures.runs;
-  lends = c.in-Err-run.ensures.lends ∙ c.in-Ok.ensures.lends;
-  len = c.in-Err-run.ensures.len ∙ c.in-Ok.ensures.len;
+  memory = same_memory_trans _ _ _ c.in-Ok.ensures.memory c.in-Err-run.ensures.memory;
 }

@@ -1,4 +1,5 @@
-use Rattle.std.proofs.Common.{None, ◌∙◌}
+use Rattle.std.proofs.Common.{None}
+use Rattle.packages.proofs.Lent.{same_memory_trans}
 use Rattle.sheet.specs.declared.call.Call.TheVariants.{Weigh}
 use Rattle.sheet.specs.Views.{rows_of, terms_of}
 use Rattle.history.specs.declared.entry.Entry.{Entry}
@@ -19,8 +20,7 @@ returns-in-Ok g c =
     record {
       runs = run_closed t t₁ same c.args.sheet c.loop-entry.sheet c.args.entries.now c.loop-entry.entry-index none (rows_of g.P.Package c.loop-entry.list) (rows_of g.P.Package c.turn.new.list) _ kept c.loop-entry.invariant.1
           c.in-Ok.record c.loop-entry-test.true c.in-Ok.ensures.turned;
-      lends = c.in-Ok.ensures.lends ∙ c.loop-entry.invariant.2;
-      len = c.in-Ok.ensures.len ∙ c.loop-entry.invariant.3;
+      memory = same_memory_trans _ _ _ c.loop-entry.invariant.2 c.in-Ok.ensures.memory;
     }
 
 pub loop-entry-preserved : goal.loop-entry-preserved
@@ -32,7 +32,7 @@ loop-entry-preserved g c =
     let same = terms_kept g.C.Category g.K.Kind g.P.Package c.args.sheet c.loop-entry.sheet kept in
     let next = run_again t t₁ same c.args.sheet c.loop-entry.sheet c.args.entries.now c.loop-entry.entry-index none (rows_of g.P.Package c.loop-entry.list) (rows_of g.P.Package c.turn.new.list) _ kept c.loop-entry.invariant.1
     c.in-Err.back c.in-Err.field-0-1 c.loop-entry-test.true c.in-Err.ensures.turned in
-    (next.0, next.1, c.in-Err.ensures.lends ∙ c.loop-entry.invariant.2, c.in-Err.ensures.len ∙ c.loop-entry.invariant.3)
+    (next.0, next.1, same_memory_trans _ _ _ c.loop-entry.invariant.2 c.in-Err.ensures.memory)
 
 pub returns : goal.returns
 returns g c =
@@ -40,6 +40,5 @@ returns g c =
     let rows = rows_of g.P.Package c.loop-entry.list in
     record {
       runs = run_open t t mathlib.Core.Path.refl c.args.sheet c.loop-entry.sheet c.args.entries.now c.loop-entry.entry-index none rows rows _ c.loop-entry.invariant.0 c.loop-entry.invariant.1 c.loop-entry-test.false;
-      lends = c.loop-entry.invariant.2;
-      len = c.loop-entry.invariant.3;
+      memory = c.loop-entry.invariant.2;
     }

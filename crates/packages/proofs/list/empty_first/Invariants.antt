@@ -1,7 +1,7 @@
--- After i turns the first i places are empty and the rest are as at entry.
+-- After so many turns as many of the first places are empty, and the rest are as at entry.
 use Rattle.std.proofs.Common.{◌≡◌, map}
 use Rattle.packages.specs.Readings.{emptied}
 use Rattle.packages.proofs.list.empty_first.Given as goal
 
-abbrev pub invariant-loop-i : goal.invariant-loop-i
-invariant-loop-i g l = map g.P.Package.reading l.places ≡ emptied l.i (map g.P.Package.reading l.initial.places)
+abbrev pub invariant-loop-place : goal.invariant-loop-place
+invariant-loop-place g l = map g.P.Package.reading l.first ≡ emptied l.place-index (map g.P.Package.reading l.initial.first)

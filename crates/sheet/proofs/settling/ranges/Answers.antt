@@ -3,7 +3,8 @@ use borrow.Author.Differences.{ints}
 use Rattle.std.proofs.lemmas.List.{length-map}
 use Rattle.std.proofs.lemmas.Int.{to_z-of_z}
 use Rattle.packages.specs.declared.reading.Reading.{Reading}
-use Rattle.sheet.specs.Tare.{gross_of, tare_of, label_by}
+use Rattle.packages.specs.Readings.{gross_of, tare_of}
+use Rattle.sheet.specs.Tare.{label_by}
 use Rattle.sheet.specs.Views.{rows_of}
 use Rattle.sheet.proofs.Ranges.{at_place, spans_first, spans_more, spans_range, size_min, size_max}
 use Rattle.sheet.proofs.settling.ranges.Goals as goal

@@ -1,5 +1,6 @@
 use Rattle.std.proofs.Common.{◌^◌, ◌≤◌, pos, ◌-ℤ◌, nat_abs}
-use Rattle.sheet.specs.Tare.{gross_of, tare_of, label_by}
+use Rattle.packages.specs.Readings.{gross_of, tare_of}
+use Rattle.sheet.specs.Tare.{label_by}
 use Rattle.sheet.specs.Views.{rows_of}
 use Rattle.sheet.proofs.Ranges.{Spans}
 use Rattle.sheet.proofs.settling.ranges.Given as goal

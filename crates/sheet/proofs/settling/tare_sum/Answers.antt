@@ -1,7 +1,7 @@
 use Rattle.std.proofs.Common.{◌≡◌, ◌<◌, length, get_or, arith}
 use Rattle.std.proofs.lemmas.List.{length-map}
 use Rattle.packages.specs.declared.reading.Reading.TheVariants.{Empty}
-use Rattle.sheet.specs.Tare.{tare_of}
+use Rattle.packages.specs.Readings.{tare_of}
 use Rattle.sheet.specs.Views.{rows_of}
 use Rattle.sheet.proofs.Tares.{tare_sum_more}
 use Rattle.sheet.proofs.settling.tare_sum.Goals as goal

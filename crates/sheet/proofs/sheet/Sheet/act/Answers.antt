@@ -16,8 +16,7 @@ returns-then-len-self g c =
     record {
       step = too_few (terms_of g.C.Category g.K.Kind g.P.Package c.args.self.now) c.args.self.now.phase rows c.args.call few;
       kept = record { category = refl; kind = refl; lot = refl; plan = refl };
-      lends = refl;
-      len = refl;
+      memory = record { lent = refl; long = refl };
     }
 
 pub returns-then-not-is_placed : goal.returns-then-not-is_placed
@@ -28,8 +27,7 @@ returns-then-not-is_placed g c =
     record {
       step = not_placed (terms_of g.C.Category g.K.Kind g.P.Package c.args.self.now) c.args.self.now.phase rows c.args.call enough at;
       kept = record { category = refl; kind = refl; lot = refl; plan = refl };
-      lends = refl;
-      len = refl;
+      memory = record { lent = refl; long = refl };
     }
 
 pub returns-then-not-is_weighable : goal.returns-then-not-is_weighable
@@ -41,8 +39,7 @@ returns-then-not-is_weighable g c =
     record {
       step = not_weighable (terms_of g.C.Category g.K.Kind g.P.Package c.args.self.now) c.args.self.now.phase rows c.args.call enough at fits;
       kept = record { category = refl; kind = refl; lot = refl; plan = refl };
-      lends = refl;
-      len = refl;
+      memory = record { lent = refl; long = refl };
     }
 
 pub returns : goal.returns
@@ -54,6 +51,5 @@ returns g c =
     record {
       step = performs (terms_of g.C.Category g.K.Kind g.P.Package c.args.self.now) c.args.self.now.phase rows c.args.call _ _ _ enough at fits c.perform.ensures.step;
       kept = c.perform.ensures.kept;
-      lends = c.perform.ensures.lends;
-      len = c.perform.ensures.len;
+      memory = c.perform.ensures.memory;
     }

@@ -3,7 +3,8 @@ use Rattle.std.proofs.lemmas.Bool.{ne_eqb, cond-false}
 use Rattle.packages.specs.declared.reading.Reading.{Reading}
 use Rattle.categories.specs.Meaning.{Sampling, total_at}
 use Rattle.lots.specs.Lots.{units}
-use Rattle.sheet.specs.Tare.{tare_of, net_error, range, error_range, tare_range, total_for}
+use Rattle.packages.specs.Readings.{tare_of}
+use Rattle.sheet.specs.Tare.{net_error, range, error_range, tare_range, total_for}
 use Rattle.sheet.specs.Terms.{Terms}
 use Rattle.sheet.specs.Views.{rows_of, terms_of}
 use Rattle.sheet.proofs.Soundness.{initial_most}
