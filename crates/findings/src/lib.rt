@@ -1,4 +1,10 @@
 #![tactic(auto)]
 
+pub mod asked;
+pub mod closed;
+mod comparing;
 pub mod consequences;
+mod finding;
 pub mod outcome;
+mod reporting;
+pub mod unfollowed;

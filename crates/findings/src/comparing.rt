@@ -1,0 +1,57 @@
+ghost use Rattle.std.specs.Prelude.{◌≡◌, ◌↔◌, IsTrue, Some};
+ghost use Rattle.findings.specs.Comparing.{Share, Answers, nothing_text};
+
+use crate::closed::Findings;
+use crate::unfollowed::NothingFollows;
+use comparison::comparing::compare;
+use comparison::premises::Premises;
+use std::fmt;
+
+impl fmt::Display for NothingFollows {
+    ghost output = { λ why. Some (nothing_text why) };
+
+    fn fmt<W: fmt::Write>(&self, f: &mut fmt::Formatter<W>) -> fmt::Result {
+        match self {
+            NothingFollows::NotShared => write!(
+                f,
+                "nothing follows: the sheets do not share category, kind, lot size, division and labels"
+            ),
+            NothingFollows::Undecided(_) => write!(f, "nothing follows"),
+        }
+    }
+}
+
+impl Findings {
+    // They share category, kind, lot size, division and labels; allowances may differ.
+    fn shares(&self, other: &Findings) -> bool
+        ensures { IsTrue result ↔ Share self.now other.now }
+    {
+        let (lot, others) = (self.start.lot, other.start.lot);
+        self.start.category == other.start.category
+            && self.start.kind == other.start.kind
+            && lot.size == others.size
+            && lot.division == others.division
+            && lot.label == others.label
+            && self.labels.as_slice() == other.labels.as_slice()
+    }
+
+    // Which premises of the rule for two hold of two closed sheets.
+    pub fn compare(&self, other: &Findings) -> Result<Premises, NothingFollows>
+        ensures { Answers self.now other.now result }
+    {
+        if !self.shares(other) {
+            return Err(NothingFollows::NotShared);
+        }
+        let compared = compare(
+            self.errors.as_slice(),
+            other.errors.as_slice(),
+            self.mavs.as_slice(),
+            self.start.lot.division,
+            self.record.rule(),
+        );
+        match compared {
+            Ok(comparison) => Ok(comparison.premises),
+            Err(refused) => Err(NothingFollows::Undecided(refused)),
+        }
+    }
+}
