@@ -1,6 +1,9 @@
 -- What is said of a call and its answer.
 use Rattle.std.specs.Prelude.{◌≡◌, ℕ, List, [], ◌∷◌, ◌++◌, codes, decimal, Some, None, Option}
+use Rattle.std.specs.Char.{encode_utf8}
 use Rattle.commands.specs.declared.command.Command as command
+use Rattle.console.specs.declared.denial.Denial.{Denial}
+use Rattle.console.specs.Denials.{account}
 use Rattle.history.specs.declared.entry.Entry as entry
 use Rattle.sheet.specs.declared.call.Call.TheVariants.{Weigh, Correct, Strike, Open, Settle, Reopen}
 use Rattle.words.specs.declared.word.Verb.{Verb}
@@ -44,3 +47,16 @@ IsEntered e asked = IsAskedBy (command_of e) asked
 abbrev pub asked_text : List ℕ → Option ℕ → List ℕ
 asked_text name (Some place) = name ++ (codes " " ++ decimal place)
 asked_text name None = name
+
+-- how many packages are to be opened, where that is what was missing
+abbrev pub total_text : List ℕ → List ℕ
+total_text [] = []
+total_text (total ∷ more) = codes ", " ++ (decimal total ++ codes " to open")
+
+abbrev pub denied_text : Denial → List ℕ
+denied_text denial =
+    codes "refused " ++ (encode_utf8 (account denial).letter ++ (codes " " ++ (decimal (account denial).number ++ total_text (account denial).values)))
+
+abbrev pub answer_text : Option Denial → List ℕ
+answer_text None = codes "accepted"
+answer_text (Some denial) = denied_text denial

@@ -1,10 +1,11 @@
 -- What the rule for two says of two closed sheets.
 use Rattle.std.specs.Prelude.{◌≡◌, ℕ, List, codes, Ok, Err, Result}
 use Rattle.comparison.specs.declared.premises.Comparison.{Comparison}
-use Rattle.comparison.specs.declared.premises.Premises.{Premises}
 use Rattle.comparison.specs.declared.premises.Refused.{Refused}
 use Rattle.comparison.specs.Compared.{Compares}
 use Rattle.findings.specs.declared.closed.Findings.{Findings}
+use Rattle.findings.specs.declared.consequences.Consequences.{Consequences}
+use Rattle.findings.specs.declared.consequences.Subject.TheVariants.{Sheets}
 use Rattle.findings.specs.declared.unfollowed.NothingFollows.{NothingFollows}
 use Rattle.findings.specs.declared.unfollowed.NothingFollows.TheVariants.{NotShared, Undecided}
 
@@ -23,8 +24,8 @@ pub record Share (f g : Findings) : Type 0 where
 abbrev pub Weighs : Findings → Findings → Result Comparison Refused → Type 0
 Weighs f g compared = Compares f.start.lot.division f.mavs.items f.record.rule f.errors.items g.errors.items compared
 
-abbrev pub Answers : Findings → Findings → Result Premises NothingFollows → Type 0
-Answers f g (Ok premises) = Share f g × ((c : Comparison) × (c.premises ≡ premises) × Weighs f g (Ok c))
+abbrev pub Answers : Findings → Findings → Result Consequences NothingFollows → Type 0
+Answers f g (Ok said) = Share f g × (said.subject ≡ Sheets) × ((c : Comparison) × (c.premises ≡ said.premises) × Weighs f g (Ok c))
 Answers f g (Err NotShared) = ¬ Share f g
 Answers f g (Err (Undecided refused)) = Share f g × Weighs f g (Err refused)
 

@@ -2,9 +2,9 @@ ghost use Rattle.std.specs.Prelude.{◌≡◌, ◌↔◌, IsTrue, Some};
 ghost use Rattle.findings.specs.Comparing.{Share, Answers, nothing_text};
 
 use crate::closed::Findings;
+use crate::consequences::{Consequences, Subject};
 use crate::unfollowed::NothingFollows;
 use comparison::comparing::compare;
-use comparison::premises::Premises;
 use std::fmt;
 
 impl fmt::Display for NothingFollows {
@@ -35,8 +35,8 @@ impl Findings {
             && self.labels.as_slice() == other.labels.as_slice()
     }
 
-    // Which premises of the rule for two hold of two closed sheets.
-    pub fn compare(&self, other: &Findings) -> Result<Premises, NothingFollows>
+    // What the rule for two says of two closed sheets.
+    pub fn compare(&self, other: &Findings) -> Result<Consequences, NothingFollows>
         ensures { Answers self.now other.now result }
     {
         if !self.shares(other) {
@@ -50,7 +50,10 @@ impl Findings {
             self.record.rule(),
         );
         match compared {
-            Ok(comparison) => Ok(comparison.premises),
+            Ok(comparison) => Ok(Consequences {
+                subject: Subject::Sheets,
+                premises: comparison.premises,
+            }),
             Err(refused) => Err(NothingFollows::Undecided(refused)),
         }
     }

@@ -1,5 +1,6 @@
 #![tactic(auto)]
 
+pub mod answer;
 pub mod asked;
 pub mod closed;
 mod comparing;
