@@ -3,6 +3,7 @@ use console::denial::Denial;
 use findings::answer::Answer;
 use findings::asked::Asked;
 use findings::closed::{Findings, HandbookStart};
+use findings::side_by_side::SideBySide;
 use history::contest::contest;
 use history::entry::Entry;
 use history::running::turn;
@@ -55,16 +56,6 @@ fn play(
     printed
 }
 
-fn print_findings(rt: &impl Print, one: &Findings, two: &Findings) -> anyhow::Result<()> {
-    println!(rt; "first record\n{one}")?;
-    println!(rt; "second record\n{two}")?;
-    match one.compare(two) {
-        Ok(consequences) => println!(rt; "{consequences}")?,
-        Err(nothing) => println!(rt; "{nothing}")?,
-    }
-    Ok(())
-}
-
 // Plays both sheets, then starts and runs both again over the same lists for their records.
 pub(crate) fn work(
     rt: &(impl Print + AllocGlobal),
@@ -91,8 +82,10 @@ pub(crate) fn work(
     let (one, two) = contest(start, begin, &mut list, &mut other, entries, more);
     let one = Findings::of(rt.alloc(), start, one, &list);
     let two = Findings::of(rt.alloc(), begin, two, &other);
-    match (one?, two?) {
-        (Some(one), Some(two)) => print_findings(rt, &one, &two),
-        _ => Ok(println!(rt; "nothing follows: a sheet was not closed")?),
-    }
+    let (Some(one), Some(two)) = (one?, two?) else {
+        println!(rt; "nothing follows: a sheet was not closed")?;
+        return Ok(());
+    };
+    let both = SideBySide::of(one, two);
+    Ok(println!(rt; "{both}")?)
 }

@@ -1,5 +1,5 @@
 -- What the rule for two says of two closed sheets.
-use Rattle.std.specs.Prelude.{◌≡◌, ℕ, List, codes, Ok, Err, Result}
+use Rattle.std.specs.Prelude.{◌≡◌, Ok, Err, Result}
 use Rattle.comparison.specs.declared.premises.Comparison.{Comparison}
 use Rattle.comparison.specs.declared.premises.Refused.{Refused}
 use Rattle.comparison.specs.Compared.{Compares}
@@ -28,7 +28,3 @@ abbrev pub Answers : Findings → Findings → Result Consequences NothingFollow
 Answers f g (Ok said) = Share f g × (said.subject ≡ Sheets) × ((c : Comparison) × (c.premises ≡ said.premises) × Weighs f g (Ok c))
 Answers f g (Err NotShared) = ¬ Share f g
 Answers f g (Err (Undecided refused)) = Share f g × Weighs f g (Err refused)
-
-abbrev pub nothing_text : NothingFollows → List ℕ
-nothing_text NotShared = codes "nothing follows: the sheets do not share category, kind, lot size, division and labels"
-nothing_text (Undecided refused) = codes "nothing follows"

@@ -1,25 +1,11 @@
-ghost use Rattle.std.specs.Prelude.{◌≡◌, ◌↔◌, IsTrue, Some};
-ghost use Rattle.findings.specs.Comparing.{Share, Answers, nothing_text};
+ghost use Rattle.std.specs.Prelude.{◌≡◌, ◌↔◌, IsTrue};
+ghost use Rattle.findings.specs.Comparing.{Share, Answers};
 
 use crate::closed::Findings;
 use crate::consequences::{Consequences, Subject};
+use crate::side_by_side::SideBySide;
 use crate::unfollowed::NothingFollows;
 use comparison::comparing::compare;
-use std::fmt;
-
-impl fmt::Display for NothingFollows {
-    ghost output = { λ why. Some (nothing_text why) };
-
-    fn fmt<W: fmt::Write>(&self, f: &mut fmt::Formatter<W>) -> fmt::Result {
-        match self {
-            NothingFollows::NotShared => write!(
-                f,
-                "nothing follows: the sheets do not share category, kind, lot size, division and labels"
-            ),
-            NothingFollows::Undecided(_) => write!(f, "nothing follows"),
-        }
-    }
-}
 
 impl Findings {
     // They share category, kind, lot size, division and labels; allowances may differ.
@@ -55,6 +41,20 @@ impl Findings {
                 premises: comparison.premises,
             }),
             Err(refused) => Err(NothingFollows::Undecided(refused)),
+        }
+    }
+}
+
+impl SideBySide {
+    pub fn of(first: Findings, second: Findings) -> SideBySide
+        ensures sheets { (result.first ≡ first) × (result.second ≡ second) }
+        ensures said { Answers first second result.said }
+    {
+        let said = first.compare(&second);
+        SideBySide {
+            first,
+            second,
+            said,
         }
     }
 }

@@ -96,7 +96,10 @@ impl fmt::Display for Consequences {
         match self.premises.lower {
             Some(place) => {
                 let package = place.saturating_add(1);
-                write!(f, "nothing follows: the error of package {package} is lower")
+                write!(
+                    f,
+                    "nothing follows: the error of package {package} is lower"
+                )
             }
             None => {
                 let counts = subject.counts();

@@ -8,4 +8,5 @@ pub mod consequences;
 mod finding;
 pub mod outcome;
 mod reporting;
+pub mod side_by_side;
 pub mod unfollowed;

@@ -1,8 +1,11 @@
 ghost use Rattle.std.specs.Prelude.{Some};
-ghost use Rattle.findings.specs.Reports.{tare_text, counts_text, verdict_text, errors_text, findings_text};
+ghost use Rattle.findings.specs.Reports.{tare_text, counts_text, verdict_text, errors_text, findings_text, nothing_text, said_text, side_by_side_text};
 
 use crate::closed::Findings;
+use crate::consequences::Consequences;
 use crate::outcome::Outcome;
+use crate::side_by_side::SideBySide;
+use crate::unfollowed::NothingFollows;
 use decision::outcome::Decision;
 use sheet::record::Record;
 use std::fmt;
@@ -78,5 +81,44 @@ impl fmt::Display for Findings {
         let verdict = VerdictLines(decision);
         let errors = ErrorsLine(self.errors.as_slice());
         write!(f, "{tare}\n{counts}\n{verdict}\n{errors}")
+    }
+}
+
+impl fmt::Display for NothingFollows {
+    ghost output = { λ why. Some (nothing_text why) };
+
+    fn fmt<W: fmt::Write>(&self, f: &mut fmt::Formatter<W>) -> fmt::Result {
+        match self {
+            NothingFollows::NotShared => write!(
+                f,
+                "nothing follows: the sheets do not share category, kind, lot size, division and labels"
+            ),
+            NothingFollows::Undecided(_) => write!(f, "nothing follows"),
+        }
+    }
+}
+
+#[derive(Clone, Copy)]
+struct SaidLines(Result<Consequences, NothingFollows>);
+
+impl fmt::Display for SaidLines {
+    ghost output = { λ said. Some (said_text said.0) };
+
+    fn fmt<W: fmt::Write>(&self, f: &mut fmt::Formatter<W>) -> fmt::Result {
+        match self.0 {
+            Ok(consequences) => write!(f, "{consequences}"),
+            Err(nothing) => write!(f, "{nothing}"),
+        }
+    }
+}
+
+impl fmt::Display for SideBySide {
+    ghost output = { λ both. Some (side_by_side_text both) };
+
+    fn fmt<W: fmt::Write>(&self, f: &mut fmt::Formatter<W>) -> fmt::Result {
+        let first = &self.first;
+        let second = &self.second;
+        let said = SaidLines(self.said);
+        write!(f, "first record\n{first}\nsecond record\n{second}\n{said}")
     }
 }
