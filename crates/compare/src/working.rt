@@ -21,7 +21,7 @@ fn print_answer(rt: &impl Print, entry: Entry, refusal: Option<Refusal>) -> anyh
         place: asked.place.filter(|place| *place != 0),
         ..asked
     };
-    let answer = Answer(refusal.map(Denial::Refused));
+    let answer = Answer(refusal.map(Denial::from));
     Ok(println!(rt; "{named}: {answer}")?)
 }
 
@@ -35,7 +35,7 @@ fn play(
     let mut sheet = match Sheet::start(start.category, start.kind, start.lot, list) {
         Ok(sheet) => sheet,
         Err(refusal) => {
-            let answer = Answer(Some(Denial::Refused(refusal)));
+            let answer = Answer(Some(refusal.into()));
             return Ok(println!(rt; "{answer}")?);
         }
     };

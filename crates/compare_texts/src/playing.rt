@@ -1,8 +1,7 @@
-use anyhow::anyhow;
 use commands::command::Command;
 use commands::fault::Fault;
 use commands::parsing::parse;
-use console::denial::Reply;
+use console::denial::Denial;
 use console::handling::handle;
 use console::session::Session;
 use findings::answer::Answer;
@@ -29,25 +28,22 @@ impl Played {
         }
     }
 
-    // A command that was carried out or refused on an open sheet, or started one.
-    fn note(&mut self, command: Command, open: bool, reply: &Reply) -> Result<(), AllocError> {
-        match (command, reply) {
-            (
-                Command::Lot {
-                    category,
-                    kind,
-                    lot,
-                },
-                Reply::Quiet,
-            ) => {
+    // A command that started a sheet, or was put to one that is open.
+    fn note(&mut self, command: Command, open: bool, accepted: bool) -> Result<(), AllocError> {
+        match command {
+            Command::Lot {
+                category,
+                kind,
+                lot,
+            } if accepted => {
                 self.start = Some(Start {
                     category,
                     kind,
                     lot,
                 });
             }
-            (Command::Call(call), _) if open => self.entries.push(Entry::Call(call))?,
-            (Command::End, _) if open => self.entries.push(Entry::Close)?,
+            Command::Call(call) if open => self.entries.push(Entry::Call(call))?,
+            Command::End if open => self.entries.push(Entry::Close)?,
             _ => {}
         }
         Ok(())
@@ -62,13 +58,9 @@ fn print_fault(rt: &impl Print, fault: Fault) -> anyhow::Result<()> {
     Ok(println!(rt; "line {line}: refused {letter} {number}")?)
 }
 
-// A command and its answer.
-fn print_reply(rt: &impl Print, command: Command, reply: &Reply) -> anyhow::Result<()> {
+fn print_answer(rt: &impl Print, command: Command, denial: Option<Denial>) -> anyhow::Result<()> {
     let asked = Asked::from(command);
-    let answer = Answer(match reply {
-        Reply::Denied(denial) => Some(*denial),
-        Reply::Quiet | Reply::Report(_) => None,
-    });
+    let answer = Answer(denial);
     Ok(println!(rt; "{asked}: {answer}")?)
 }
 
@@ -88,11 +80,11 @@ fn play_line(
     };
     let open = matches!(&session, Session::Open(_));
     let (session, reply) = handle(session, list, command);
-    let noted = played.note(command, open, &reply);
-    let printed = print_reply(rt, command, &reply);
+    let noted = played.note(command, open, reply.is_ok());
+    let printed = print_answer(rt, command, reply.err());
     match noted {
         Ok(()) => (session, printed),
-        Err(error) => (session, Err(anyhow!(error))),
+        Err(error) => (session, Err(error.into())),
     }
 }
 

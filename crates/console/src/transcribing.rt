@@ -1,9 +1,10 @@
-ghost use Rattle.std.specs.Prelude.{◌≡◌, length, IfOk};
+ghost use Rattle.std.specs.Prelude.{IfOk};
+ghost use Rattle.packages.specs.Memory.{SameMemory};
 ghost use Rattle.sheet.specs.Views.{rows_of};
 ghost use Rattle.console.specs.Transcripts.{Transcript};
 
 use crate::session::Session;
-use crate::telling::{abandon, finish, take_line};
+use crate::telling::{finish, take_line};
 use packages::list::PackageList;
 use packages::package::Package;
 use std::alloc::{AllocError, Global};
@@ -16,8 +17,7 @@ pub fn transcribe<P: Package>(
     list: &mut PackageList<P>,
 ) -> Result<Vec<u8>, AllocError>
     ensures transcript { IfOk result (λ v. Transcript P.Package.labeled text.now (rows_of P.Package list.old) v.items) }
-    ensures lends { list.new.places.ghost_name ≡ list.old.places.ghost_name }
-    ensures len { length list.new.places.now ≡ length list.old.places.now }
+    ensures memory { SameMemory list.old.places list.new.places }
 {
     let mut all = Vec::new(heap);
     if text.len() > 65_536 {
@@ -34,7 +34,7 @@ pub fn transcribe<P: Package>(
         session = next;
         let Ok(n) = written else { unreachable() };
         if let Err(error) = all.extend_from_slice(&out[0..n]) {
-            abandon(session);
+            session.abandon();
             return Err(error);
         }
         at = end + 1;
@@ -45,9 +45,8 @@ pub fn transcribe<P: Package>(
             all.extend_from_slice(&out[0..n])?;
             Ok(all)
         }
-        Err(open) => {
-            let (back, _) = open;
-            abandon(back);
+        Err((back, _)) => {
+            back.abandon();
             unreachable()
         }
     }

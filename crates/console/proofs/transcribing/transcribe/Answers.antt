@@ -10,8 +10,7 @@ pub returns-then-text-gt65536 : goal.returns-then-text-gt65536
 returns-then-text-gt65536 g c = record {
   transcript = long g.P.Package.labeled c.args.text.now _ (rows_of g.P.Package c.args.list.now) c.if-text-gt65536.true
       (c.in_ok-extend_from_slice.ensures.items ∙ ap (λ l. l ++ codes "1 1 T 1\n") c.new-all.ensures.items);
-  lends = refl;
-  len = refl;
+  memory = record { lent = refl; long = refl };
 }
 
 pub loop-at-preserved : goal.loop-at-preserved
@@ -32,8 +31,7 @@ loop-at-preserved g c =
           c.loop-at-test.true c.line_length.ensures.is
           (subst (λ r. Answers (said labeled c.loop-at.line here st rows) st rows c.loop-at.out r c.take_line-next.new.out st₁ rows₁) c.in-Ok.is c.take_line-next.ensures.answers)
           c.in_default-extend_from_slice.ensures.items,
-      c.take_line-next.ensures.lends ∙ c.loop-at.invariant.4,
-      c.take_line-next.ensures.len ∙ c.loop-at.invariant.5,
+      record { lent = c.take_line-next.ensures.memory.lent ∙ c.loop-at.invariant.4.lent; long = c.take_line-next.ensures.memory.long ∙ c.loop-at.invariant.4.long },
     )
 
 pub returns : goal.returns
@@ -47,6 +45,5 @@ returns g c =
           (done labeled text c.loop-at.at c.loop-at.line (standing labeled c.loop-at.session) (rows_of g.P.Package c.loop-at.list) (vec_items c.loop-at.all)
           (λ out. Told labeled 1 (lines text) idle rows₀ out) c.loop-at.invariant.3
           c.in-Ok-finish.n c.loop-at.out c.finish.new.out _ c.loop-at.session refl c.loop-at-test.false c.in-Ok-finish.ensures.1 c.in_ok-extend_from_slice-in-Ok-finish.ensures.items);
-      lends = c.loop-at.invariant.4;
-      len = c.loop-at.invariant.5;
+      memory = c.loop-at.invariant.4;
     }
