@@ -1,31 +1,20 @@
 -- Whatever the lot, the plan of a category is within the bounds: tests of the printed rows show it.
-use Rattle.std.specs.Prelude.{◌≡◌, ℕ, suc, ◌*◌, ◌<◌, ◌≤◌, Bool, true, false, cond, not, ◌&&◌, ◌||◌, leb, List, None, ◌==◌, nat_le, refl}
+use Rattle.std.specs.Prelude.{◌≡◌, ℕ, suc, ◌*◌, ◌<◌, ◌≤◌, Bool, true, cond, if◌then◌else◌, ◌&&◌, leb, List, None, ◌==◌, nat_le, refl}
 use Rattle.std.proofs.Common.{arith}
-use Rattle.std.proofs.lemmas.Bool.{leb-true, eqb-true, eqb-false, not-true, and_parts, cond_both, both_ways}
+use Rattle.std.proofs.lemmas.Bool.{leb-true, eqb-true, eqb-false, not-true, and_parts, cond_both}
 use Rattle.std.proofs.lemmas.Bool.Decides.{nat_tests}
 use Rattle.tables.specs.Rows.{reached}
-use Rattle.tables.proofs.Lookup.{every, passes, holds, follows_below}
+use Rattle.tables.proofs.Lookup.{every, passes, holds, follows, follows_below}
 use Rattle.categories.specs.declared.handbook.HandbookCategory.{HandbookCategory}
 use Rattle.categories.specs.declared.handbook.HandbookCategory.TheVariants.{A, B, C}
 use Rattle.categories.specs.declared.plan.Row.{Row}
 use Rattle.categories.specs.Meaning.{Sound, InBounds}
-use Rattle.categories.specs.Handbook.{takes, row_of, average, plan_of, total, handbook}
+use Rattle.categories.specs.Handbook.{takes, rows, past, row_of, average, plan_of, total, handbook}
 use Rattle.categories.specs.Printed as printed
 
--- each row of a table, and the row past its end, passes a test
-abbrev pub table_passes : (Row → Bool) → List (ℕ × Row) → Row → Bool
-table_passes test table past = every test table && test past
-
--- so does what the table has for a size
-pub reached_passes : (test : Row → Bool) (table : List (ℕ × Row)) (past : Row) (size : ℕ) → table_passes test table past ≡ true → test (reached table past size) ≡ true
-reached_passes test table past size h =
-    let both = and_parts (every test table) (test past) h in passes test table past size both.0 both.1
-
--- each row of a category passes a test of its own
+-- each row of a category's table, and the row past its end, passes a test
 abbrev pub category_passes : (HandbookCategory → Row → Bool) → HandbookCategory → Bool
-category_passes test A = table_passes (test A) printed.a printed.a_past
-category_passes test B = table_passes (test B) printed.b printed.b_past
-category_passes test C = table_passes (test C) printed.c printed.c_past
+category_passes test category = every (test category) (rows category) && test category (past category)
 
 abbrev pub all_pass : (HandbookCategory → Row → Bool) → Bool
 all_pass test = category_passes test A && (category_passes test B && category_passes test C)
@@ -38,9 +27,9 @@ each_passes test h category =
 
 -- so does the row of a lot, whatever its size
 pub row_passes : (test : HandbookCategory → Row → Bool) → all_pass test ≡ true → (category : HandbookCategory) (size : ℕ) → test category (row_of category size) ≡ true
-row_passes test h A size = reached_passes (test A) printed.a printed.a_past size (each_passes test h A)
-row_passes test h B size = reached_passes (test B) printed.b printed.b_past size (each_passes test h B)
-row_passes test h C size = reached_passes (test C) printed.c printed.c_past size (each_passes test h C)
+row_passes test h category size =
+    let both = and_parts (every (test category) (rows category)) (test category (past category)) (each_passes test h category) in
+    passes (test category) (rows category) (past category) size both.0 both.1
 
 -- every category takes only lots above this size
 abbrev pub floor : HandbookCategory → ℕ
@@ -58,14 +47,13 @@ above_floor C size name label t = let some = eqb-false size 0 (not-true _ (and_p
 abbrev pub at_most_next : ℕ → Row → Bool
 at_most_next end row = nat_le row.sample (suc end)
 
-drawn_from : (size n : ℕ) → (e : ℕ) × (e < size) × (nat_le n (suc e) ≡ true) → n ≤ size
-drawn_from size n f = let most = leb-true n (suc f.0) f.2 in omega arith
-
 -- so no sample is larger than the lot
 pub drawn : (category : HandbookCategory) (size : ℕ) → floor category < size → (row_of category size).sample ≤ size
-drawn A size b = drawn_from size _ (follows_below at_most_next 0 printed.a printed.a_past size b refl)
-drawn B size b = drawn_from size _ (follows_below at_most_next 9 printed.b printed.b_past size b refl)
-drawn C size b = drawn_from size _ (follows_below at_most_next 0 printed.c printed.c_past size b refl)
+drawn category size b =
+    let next = elim category as (λ k. follows at_most_next (floor k) (rows k) (past k) ≡ true) [ A ↦ refl | B ↦ refl | C ↦ refl ] in
+    let below = follows_below at_most_next (floor category) (rows category) (past category) size b next in
+    let most = leb-true (row_of category size).sample (suc below.0) below.2 in
+    omega arith
 
 -- a total is between the initial size and the sample size
 abbrev pub Between : ℕ → ℕ → ℕ → Type 0
@@ -110,11 +98,6 @@ totals B row ratio t p =
     p
 totals C row ratio t p = (omega arith, p)
 
--- what a test implies
-implied : (x y : Bool) → (not x || y) ≡ true → x ≡ true → y ≡ true
-implied true y h e = h
-implied false y h e = absurd (both_ways false refl e)
-
 -- the plan of a lot that is large enough for the category
 pub sound : (category : HandbookCategory) (size : ℕ) → floor category < size → Sound size (record { plan = plan_of category (row_of category size); total = total category (row_of category size) })
 sound category size b =
@@ -124,7 +107,7 @@ sound category size b =
       some = leb-true 1 _ (row_passes (λ _ row. leb 1 row.sample) refl category size);
       few = leb-true _ 48 (row_passes (λ _ row. leb row.sample 48) refl category size);
       drawn = drawn category size b;
-      average = λ e. leb-true 2 _ (implied (average category (row_of category size).sample) _ (row_passes (λ k row. not (average k row.sample) || nat_le 2 row.sample) refl category size) e);
+      average = λ e. leb-true 2 _ (rw e at (row_passes (λ k row. if average k row.sample then nat_le 2 row.sample else true) refl category size));
       factor = leb-true _ 18000 (row_passes (λ _ row. leb (row.factor * row.sample) 18000) refl category size);
       allowed = leb-true _ _ (row_passes (λ _ row. leb row.allowed row.sample) refl category size);
       initial = initial;

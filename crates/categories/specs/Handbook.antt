@@ -1,5 +1,5 @@
 -- The three categories of the handbook.
-use Rattle.std.specs.Prelude.{ℕ, Bool, cond, if◌then◌else◌, not, ◌&&◌, List, Some, None, Option, ◌==◌, nat_le, nat_lt}
+use Rattle.std.specs.Prelude.{ℕ, Bool, true, false, if◌then◌else◌, not, ◌&&◌, List, Some, None, Option, ◌==◌, nat_le, nat_lt}
 use Rattle.decision.specs.declared.rule.Counted.{Counted}
 use Rattle.decision.specs.declared.rule.Counted.TheVariants.{Unreasonable, Short}
 use Rattle.kinds.specs.Handbook.{weight, count}
@@ -25,17 +25,26 @@ takes A size name label = not (size == 0) && not (low_count name label)
 takes B size name label = nat_le 10 size && weight name
 takes C size name label = not (size == 0) && low_count name label
 
+-- the printed table of sampling plans, and the row past its end
+abbrev pub rows : HandbookCategory → List (ℕ × Row)
+rows A = printed.a
+rows B = printed.b
+rows C = printed.c
+
+abbrev pub past : HandbookCategory → Row
+past A = printed.a_past
+past B = printed.b_past
+past C = printed.c_past
+
 -- the first printed row that reaches the lot
 abbrev pub row_of : HandbookCategory → ℕ → Row
-row_of A size = reached printed.a printed.a_past size
-row_of B size = reached printed.b printed.b_past size
-row_of C size = reached printed.c printed.c_past size
+row_of category = reached (rows category) (past category)
 
 -- A needs two packages for an average, B always has it, C never
 abbrev pub average : HandbookCategory → ℕ → Bool
 average A n = nat_lt 1 n
-average B n = mathlib.Core.Bool.true
-average C n = mathlib.Core.Bool.false
+average B n = true
+average C n = false
 
 abbrev pub counts : HandbookCategory → Counted
 counts A = Unreasonable
@@ -53,15 +62,16 @@ plan_of category row = record {
 abbrev pub total : HandbookCategory → Row → ℕ → ℕ
 total A row ratio =
     let totals : ℕ × ℕ × ℕ = reached printed.a_tare (row.initial, row.initial, row.initial) ratio in
-    cond (row.sample == 12) totals.0 (cond (row.sample == 24) totals.1 (cond (row.sample == 48) totals.2 row.initial))
+    if row.sample == 12 then totals.0 else (if row.sample == 24 then totals.1 else (if row.sample == 48 then totals.2 else row.initial))
 total B row ratio =
     let totals : ℕ × ℕ = reached printed.b_tare (row.initial, row.initial) ratio in
-    cond (row.sample == 10) totals.0 (cond (row.sample == 30) totals.1 row.initial)
+    if row.sample == 10 then totals.0 else (if row.sample == 30 then totals.1 else row.initial)
 total C row ratio = row.initial
 
 abbrev pub handbook : HandbookCategory → ℕ → List ℕ → ℕ → Option Sampling
 handbook category size name label =
-    cond (takes category size name label) (Some (record { plan = plan_of category (row_of category size); total = total category (row_of category size) })) None
+    let row = row_of category size in
+    if takes category size name label then Some (record { plan = plan_of category row; total = total category row }) else None
 
 abbrev pub all_ascend : Bool
 all_ascend = ascending printed.a && ascending printed.c && ascending printed.a_tare && ascending printed.b_tare

@@ -1,5 +1,5 @@
-ghost use Rattle.std.specs.Prelude.{◌≡◌, T, Some, None, MatchResult};
-ghost use Rattle.categories.specs.Handbook.{handbook as meaning_of, letter_of, low_count, takes as takes_of, row_of, plan_of, total as total_of, all_ascend};
+ghost use Rattle.std.specs.Prelude.{◌≡◌, Some, None, MatchResult, IsTrue};
+ghost use Rattle.categories.specs.Handbook.{handbook as meaning_of, letter_of, low_count, takes, rows, past, row_of, plan_of, total, all_ascend};
 ghost use Rattle.categories.specs.Bounds.{handbook_bounds};
 
 use crate::category::Category;
@@ -40,72 +40,81 @@ fn is_low_count(word: &str, label: u64) -> bool
     is_count(word) && label <= 50
 }
 
-fn takes(category: HandbookCategory, size: u32, word: &str, label: u64) -> bool
-    ensures { result ≡ takes_of category size word.now label }
-{
-    let low_count = is_low_count(word, label);
-    match category {
-        HandbookCategory::A => size != 0 && !low_count,
-        HandbookCategory::B => size >= 10 && is_weight(word),
-        HandbookCategory::C => size != 0 && low_count,
-    }
-}
-
-fn row_of(category: HandbookCategory, size: u32) -> Row
-    ensures { result ≡ row_of category size }
-{
-    let size = u64::from(size);
-    match category {
-        HandbookCategory::A => reached(&A, A_PAST, size),
-        HandbookCategory::B => reached(&B, B_PAST, size),
-        HandbookCategory::C => reached(&C, C_PAST, size),
-    }
-}
-
-fn plan_of(category: HandbookCategory, row: Row) -> Plan
-    ensures { result ≡ plan_of category row }
-{
-    let (average, counted) = match category {
-        HandbookCategory::A => (row.sample > 1, Counted::Unreasonable),
-        HandbookCategory::B => (true, Counted::Unreasonable),
-        HandbookCategory::C => (false, Counted::Short),
-    };
-    let rule = Rule {
-        average,
-        factor: row.factor,
-        allowed: row.allowed,
-        counted,
-    };
-    Plan {
-        sample: row.sample,
-        rule,
-        initial: row.initial,
-    }
-}
-
-fn total_of(category: HandbookCategory, row: Row, ratio: u64) -> u32
-    ensures { result ≡ total_of category row ratio }
-{
-    let initial = row.initial;
-    match category {
-        HandbookCategory::A => {
-            let (of_12, of_24, of_48) = reached(&A_TARE, (initial, initial, initial), ratio);
-            match row.sample {
-                12 => of_12,
-                24 => of_24,
-                48 => of_48,
-                _ => initial,
-            }
+impl HandbookCategory {
+    // The printed table of sampling plans, and the row past its end.
+    fn table(self) -> (&'static [(u64, Row)], Row)
+        ensures rows { result.0.now ≡ rows self }
+        ensures past { result.1 ≡ past self }
+    {
+        match self {
+            HandbookCategory::A => (&A, A_PAST),
+            HandbookCategory::B => (&B, B_PAST),
+            HandbookCategory::C => (&C, C_PAST),
         }
-        HandbookCategory::B => {
-            let (of_10, of_30) = reached(&B_TARE, (initial, initial), ratio);
-            match row.sample {
-                10 => of_10,
-                30 => of_30,
-                _ => initial,
-            }
+    }
+
+    fn row(self, size: u32) -> Row
+        ensures { result ≡ row_of self size }
+    {
+        let (rows, past) = self.table();
+        reached(rows, past, u64::from(size))
+    }
+
+    fn takes(self, size: u32, word: &str, label: u64) -> bool
+        ensures { result ≡ takes self size word.now label }
+    {
+        let low_count = is_low_count(word, label);
+        match self {
+            HandbookCategory::A => size != 0 && !low_count,
+            HandbookCategory::B => size >= 10 && is_weight(word),
+            HandbookCategory::C => size != 0 && low_count,
         }
-        HandbookCategory::C => initial,
+    }
+
+    fn plan_of(self, row: Row) -> Plan
+        ensures { result ≡ plan_of self row }
+    {
+        let (average, counted) = match self {
+            HandbookCategory::A => (row.sample > 1, Counted::Unreasonable),
+            HandbookCategory::B => (true, Counted::Unreasonable),
+            HandbookCategory::C => (false, Counted::Short),
+        };
+        Plan {
+            sample: row.sample,
+            rule: Rule {
+                average,
+                factor: row.factor,
+                allowed: row.allowed,
+                counted,
+            },
+            initial: row.initial,
+        }
+    }
+
+    fn total_of(self, row: Row, ratio: u64) -> u32
+        ensures { result ≡ total self row ratio }
+    {
+        let initial = row.initial;
+        match self {
+            HandbookCategory::A => {
+                let (of_12, of_24, of_48) = reached(&A_TARE, (initial, initial, initial), ratio);
+                match row.sample {
+                    12 => of_12,
+                    24 => of_24,
+                    48 => of_48,
+                    _ => initial,
+                }
+            }
+            HandbookCategory::B => {
+                let (of_10, of_30) = reached(&B_TARE, (initial, initial), ratio);
+                match row.sample {
+                    10 => of_10,
+                    30 => of_30,
+                    _ => initial,
+                }
+            }
+            HandbookCategory::C => initial,
+        }
     }
 }
 
@@ -115,16 +124,13 @@ impl Category for HandbookCategory {
     ghost bounds = { λ category size word label. handbook_bounds category size word label };
 
     fn plan(&self, size: u32, word: &str, label: u64) -> Option<Plan> {
-        if takes(*self, size, word, label) {
-            Some(plan_of(*self, row_of(*self, size)))
-        } else {
-            None
-        }
+        self.takes(size, word, label)
+            .then(|| self.plan_of(self.row(size)))
     }
 
     fn tare_total(&self, size: u32, word: &str, label: u64, ratio: u64) -> u32 {
-        if takes(*self, size, word, label) {
-            total_of(*self, row_of(*self, size), ratio)
+        if self.takes(size, word, label) {
+            self.total_of(self.row(size), ratio)
         } else {
             0
         }
@@ -133,5 +139,5 @@ impl Category for HandbookCategory {
 
 // Each row of each printed table reaches further than the row before it.
 pub fn rows_ascend()
-    ensures { T all_ascend }
+    ensures { IsTrue all_ascend }
 {}

@@ -1,5 +1,5 @@
 -- What one word of a line says, or its fault.
-use Rattle.std.specs.Prelude.{ℕ, cond, List, length, Some, None, Ok, Err, Option, Result, ◌==◌, slice_index}
+use Rattle.std.specs.Prelude.{ℕ, cond, List, length, Some, None, Ok, Err, Option, Result, ok_or, ◌==◌, slice_index}
 use Rattle.categories.specs.Handbook.{letter_of}
 use Rattle.categories.specs.declared.handbook.HandbookCategory.{HandbookCategory}
 use Rattle.kinds.specs.Handbook.{kind_of}
@@ -14,8 +14,7 @@ use Rattle.commands.specs.Faults.{fault}
 
 -- what is found, or a fault at the word
 abbrev pub found : {X : Type 0} → ℕ → ℕ → Why → Option X → Result X Fault
-found line column why (Some x) = Ok x
-found line column why None = Err (fault line column why)
+found line column why x = ok_or x (fault line column why)
 
 abbrev pub number_in : ℕ → Placed → Result ℕ Fault
 number_in line w = found line w.0 NotNumber (number_of w.1)

@@ -1,7 +1,6 @@
 -- What a line asks for, by the questions in their order: its length, its command, its count of words, its numbers, its names.
 use Rattle.std.specs.Prelude.{ℕ, Bool, cond, ◌||◌, List, [], ◌∷◌, length, Some, None, Ok, Err, Option, Result, ◌==◌, nat_lt, slice_index_or}
 use Rattle.sheet.specs.declared.call.Call.TheVariants.{Weigh, Correct, Strike, Open, Settle, Reopen}
-use Rattle.words.specs.declared.reader.Part.{Part}
 use Rattle.words.specs.declared.word.Verb.{Verb}
 use Rattle.words.specs.declared.word.Verb.TheVariants.{Lot, Wt, Fix, Del, Op, Set, Re, End}
 use Rattle.words.specs.Lines.{Placed, words}
@@ -10,13 +9,16 @@ use Rattle.commands.specs.declared.command.Command.{Command}
 use Rattle.commands.specs.declared.command.Command.TheVariants as command
 use Rattle.commands.specs.declared.fault.Fault.{Fault}
 use Rattle.commands.specs.declared.fault.Why.TheVariants.{TooLong, NotCommand, Miscounted}
+use Rattle.commands.specs.declared.line.Line.{Line}
+use Rattle.commands.specs.Behind.{behind}
 use Rattle.commands.specs.Faults.{fault}
 use Rattle.commands.specs.Fields.{some, number_in, label_in, category_in, kind_in}
 
 -- what follows a part that was read, or its fault
-abbrev pub after : {X Y : Type 0} → Result X Fault → (X → Result Y Fault) → Result Y Fault
-after (Ok x) next = next x
-after (Err e) next = Err e
+infixl 10 ◌>>=◌
+abbrev pub ◌>>=◌ : {X Y : Type 0} → Result X Fault → (X → Result Y Fault) → Result Y Fault
+Ok x >>= next = next x
+Err e >>= next = Err e
 
 -- how many words follow the command
 abbrev pub counts : Verb → ℕ → Bool
@@ -32,33 +34,43 @@ counts End n = n == 0
 abbrev pub at : List Placed → ℕ → Placed
 at ws i = slice_index_or ws i (0, [])
 
-abbrev pub placed : Part → Placed
-placed part = (part.column, part.bytes.now)
-
 -- category, kind, size, division, label, allowance; the numbers are asked before the names
 abbrev pub lot_from : ℕ → Placed → Placed → Placed → Placed → Placed → Placed → Result Command Fault
-lot_from line c k n d l a =
-    after (number_in line n) (λ size.
-    after (number_in line d) (λ division.
-    after (label_in line l) (λ label.
-    after (number_in line a) (λ allowance.
-    after (category_in line c) (λ category.
-    after (kind_in line k) (λ kind.
-    Ok (command.Lot category kind (record { size = size; division = division; label = label; allowance = allowance }))))))))
+lot_from line c k n d l a = do
+  size ← number_in line n
+  division ← number_in line d
+  label ← label_in line l
+  allowance ← number_in line a
+  category ← category_in line c
+  kind ← kind_in line k
+  Ok (command.Lot category kind (record { size = size; division = division; label = label; allowance = allowance }))
 
 -- place, gross, and a label if one is given
 abbrev pub weight_from : ℕ → Placed → Placed → Result (Option ℕ) Fault → Result (ℕ × ℕ × Option ℕ) Fault
-weight_from line p g l = after (number_in line p) (λ place. after (number_in line g) (λ gross. after l (λ label. Ok (place, gross, label))))
+weight_from line p g l = do
+  place ← number_in line p
+  gross ← number_in line g
+  label ← l
+  Ok (place, gross, label)
 
 abbrev pub weight_by : ℕ → List Placed → Result (ℕ × ℕ × Option ℕ) Fault
 weight_by line ws = weight_from line (at ws 0) (at ws 1) (cond (length ws == 3) (some (number_in line (at ws 2))) (Ok None))
 
 abbrev pub filled : ℕ → Verb → List Placed → Result Command Fault
 filled line Lot ws = lot_from line (at ws 0) (at ws 1) (at ws 2) (at ws 3) (at ws 4) (at ws 5)
-filled line Wt ws = after (weight_by line ws) (λ w. Ok (command.Call (Weigh w.0 w.1 w.2)))
-filled line Fix ws = after (weight_by line ws) (λ w. Ok (command.Call (Correct w.0 w.1 w.2)))
-filled line Del ws = after (number_in line (at ws 0)) (λ place. Ok (command.Call (Strike place)))
-filled line Op ws = after (number_in line (at ws 0)) (λ place. after (number_in line (at ws 1)) (λ tare. Ok (command.Call (Open place tare))))
+filled line Wt ws = do
+  weight ← weight_by line ws
+  Ok (command.Call (Weigh weight.0 weight.1 weight.2))
+filled line Fix ws = do
+  weight ← weight_by line ws
+  Ok (command.Call (Correct weight.0 weight.1 weight.2))
+filled line Del ws = do
+  place ← number_in line (at ws 0)
+  Ok (command.Call (Strike place))
+filled line Op ws = do
+  place ← number_in line (at ws 0)
+  tare ← number_in line (at ws 1)
+  Ok (command.Call (Open place tare))
 filled line Set ws = Ok (command.Call Settle)
 filled line Re ws = Ok (command.Call Reopen)
 filled line End ws = Ok command.End
@@ -69,12 +81,6 @@ counted line column verb ws said = cond (counts verb (length ws)) said (Err (fau
 
 abbrev pub read_as : ℕ → ℕ → Verb → List Placed → Result Command Fault
 read_as line column verb ws = counted line column verb ws (filled line verb ws)
-
-abbrev pub weighed_by : ℕ → ℕ → List Placed → Result (ℕ × ℕ × Option ℕ) Fault
-weighed_by line column ws = counted line column Wt ws (weight_by line ws)
-
-abbrev pub alone_by : ℕ → ℕ → Command → List Placed → Result Command Fault
-alone_by line column c ws = counted line column Set ws (Ok c)
 
 abbrev pub by_verb : ℕ → ℕ → Option Verb → List Placed → Result Command Fault
 by_verb line column None ws = Err (fault line column NotCommand)
@@ -88,3 +94,13 @@ by_words line (w ∷ ws) = some (by_verb line w.0 (verb_of w.1) ws)
 -- a line, with its number
 abbrev pub reading : ℕ → List ℕ → Result (Option Command) Fault
 reading line text = cond (nat_lt 65536 (length text)) (Err (fault 1 1 TooLong)) (by_words line (words 1 text))
+
+-- the same of a line that is taken word by word: what it says as a command, as a weighing, and as one that stands alone
+abbrev pub read_line : Line → Verb → Result Command Fault
+read_line line verb = read_as line.first.line line.first.column verb (behind line)
+
+abbrev pub weighed_by : Line → Result (ℕ × ℕ × Option ℕ) Fault
+weighed_by line = counted line.first.line line.first.column Wt (behind line) (weight_by line.first.line (behind line))
+
+abbrev pub alone_by : Line → Command → Result Command Fault
+alone_by line c = counted line.first.line line.first.column Set (behind line) (Ok c)

@@ -1,5 +1,5 @@
 // What is wrong with a line, in the order in which it is asked.
-#[derive(Clone, Copy)]
+#[derive(Clone, Copy, Debug, PartialEq, Eq)]
 pub enum Why {
     // the text has more than 65536 bytes
     TooLong,
@@ -14,7 +14,7 @@ pub enum Why {
 }
 
 // A line that is not read, and where.
-#[derive(Clone, Copy)]
+#[derive(Clone, Copy, Debug, PartialEq, Eq)]
 pub struct Fault {
     pub line: usize,
     pub column: usize,

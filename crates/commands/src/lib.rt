@@ -3,5 +3,6 @@
 pub mod accounts;
 pub mod command;
 pub mod fault;
+mod line;
 pub mod parsing;
-pub mod taking;
+mod taking;

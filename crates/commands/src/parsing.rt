@@ -1,160 +1,125 @@
 ghost use Rattle.std.specs.Prelude.{◌≡◌};
-ghost use Rattle.words.specs.Reading.{ahead as ahead_of};
 ghost use Rattle.words.specs.declared.word.Verb.TheVariants as verb;
-ghost use Rattle.commands.specs.Fields.{some, number_in};
-ghost use Rattle.commands.specs.Parsing.{placed, lot_from, weight_from, read_as, weighed_by, alone_by, reading};
+ghost use Rattle.commands.specs.Parsing.{read_line, weighed_by, alone_by, reading};
 
 use crate::command::Command;
 use crate::fault::{Fault, Why};
-use crate::taking::{category_in, fault, kind_in, label_in, number_in};
+use crate::line::Line;
 use lots::lot::Lot;
 use sheet::call::Call;
-use words::reader::{Part, Reader};
-use words::sorting::sort;
+use words::reader::Reader;
 use words::word::{Verb, Word};
 
-// The words of a lot line: its numbers are asked before its names.
-fn lot_of(
-    category: Part<'_>,
-    kind: Part<'_>,
-    size: Part<'_>,
-    division: Part<'_>,
-    label: Part<'_>,
-    allowance: Part<'_>,
-) -> Result<Command, Fault>
-    requires line_value { (kind.line ≡ category.line) × ((size.line ≡ category.line) × (division.line ≡ category.line)) }
-    requires line_value_2 { (label.line ≡ category.line) × (allowance.line ≡ category.line) }
-    ensures { result ≡ lot_from category.entry.line (placed category.entry) (placed kind.entry) (placed size.entry) (placed division.entry) (placed label.entry) (placed allowance.entry) }
+// The numbers of a lot are asked before its names.
+fn lot(mut line: Line<'_>) -> Result<Command, Fault>
+    ensures { result ≡ read_line line.entry verb.Lot }
 {
+    let Some(category) = line.next() else {
+        return Err(line.short());
+    };
+    let Some(kind) = line.next() else {
+        return Err(line.short());
+    };
+    let Some(size) = line.next() else {
+        return Err(line.short());
+    };
+    let Some(division) = line.next() else {
+        return Err(line.short());
+    };
+    let Some(label) = line.next() else {
+        return Err(line.short());
+    };
+    let Some(allowance) = line.next() else {
+        return Err(line.short());
+    };
+    let None = line.next() else {
+        return Err(line.short());
+    };
     let lot = Lot {
-        size: number_in(size)?,
-        division: number_in(division)?,
-        label: label_in(label)?,
-        allowance: number_in(allowance)?,
+        size: line.number(size)?,
+        division: line.number(division)?,
+        label: line.label(label)?,
+        allowance: line.number(allowance)?,
     };
     Ok(Command::Lot {
-        category: category_in(category)?,
-        kind: kind_in(kind)?,
+        category: line.category(category)?,
+        kind: line.kind(kind)?,
         lot,
     })
 }
 
-fn lot(reader: &mut Reader<'_>, first: Part<'_>) -> Result<Command, Fault>
-    requires { first.line ≡ reader.old.line }
-    ensures { result ≡ read_as first.entry.line first.entry.column verb.Lot (ahead_of reader.old) }
+fn strike(mut line: Line<'_>) -> Result<Command, Fault>
+    ensures { result ≡ read_line line.entry verb.Del }
 {
-    let short = fault(first, Why::Miscounted);
-    let Some(category) = reader.next_word() else {
-        return Err(short);
+    let Some(place) = line.next() else {
+        return Err(line.short());
     };
-    let Some(kind) = reader.next_word() else {
-        return Err(short);
-    };
-    let Some(size) = reader.next_word() else {
-        return Err(short);
-    };
-    let Some(division) = reader.next_word() else {
-        return Err(short);
-    };
-    let Some(label) = reader.next_word() else {
-        return Err(short);
-    };
-    let Some(allowance) = reader.next_word() else {
-        return Err(short);
-    };
-    let None = reader.next_word() else {
-        return Err(short);
-    };
-    lot_of(category, kind, size, division, label, allowance)
-}
-
-fn strike(reader: &mut Reader<'_>, first: Part<'_>) -> Result<Command, Fault>
-    requires { first.line ≡ reader.old.line }
-    ensures { result ≡ read_as first.entry.line first.entry.column verb.Del (ahead_of reader.old) }
-{
-    let Some(place) = reader.next_word() else {
-        return Err(fault(first, Why::Miscounted));
-    };
-    let None = reader.next_word() else {
-        return Err(fault(first, Why::Miscounted));
+    let None = line.next() else {
+        return Err(line.short());
     };
     Ok(Command::Call(Call::Strike {
-        place: number_in(place)?,
+        place: line.number(place)?,
     }))
 }
 
-fn tare(reader: &mut Reader<'_>, first: Part<'_>) -> Result<Command, Fault>
-    requires { first.line ≡ reader.old.line }
-    ensures { result ≡ read_as first.entry.line first.entry.column verb.Op (ahead_of reader.old) }
+fn tare(mut line: Line<'_>) -> Result<Command, Fault>
+    ensures { result ≡ read_line line.entry verb.Op }
 {
-    let Some(place) = reader.next_word() else {
-        return Err(fault(first, Why::Miscounted));
+    let Some(place) = line.next() else {
+        return Err(line.short());
     };
-    let Some(tare) = reader.next_word() else {
-        return Err(fault(first, Why::Miscounted));
+    let Some(tare) = line.next() else {
+        return Err(line.short());
     };
-    let None = reader.next_word() else {
-        return Err(fault(first, Why::Miscounted));
+    let None = line.next() else {
+        return Err(line.short());
     };
     Ok(Command::Call(Call::Open {
-        place: number_in(place)?,
-        tare: number_in(tare)?,
+        place: line.number(place)?,
+        tare: line.number(tare)?,
     }))
-}
-
-fn weight_of(
-    place: Part<'_>,
-    gross: Part<'_>,
-    label: Part<'_>,
-) -> Result<(u32, u32, Option<u32>), Fault>
-    requires { (gross.line ≡ place.line) × (label.line ≡ place.line) }
-    ensures { result ≡ weight_from place.entry.line (placed place.entry) (placed gross.entry) (some (number_in place.entry.line (placed label.entry))) }
-{
-    Ok((
-        number_in(place)?,
-        number_in(gross)?,
-        Some(number_in(label)?),
-    ))
 }
 
 // Place, gross weight and label of a weighing or a correcting.
-fn weight(reader: &mut Reader<'_>, first: Part<'_>) -> Result<(u32, u32, Option<u32>), Fault>
-    requires { first.line ≡ reader.old.line }
-    ensures { result ≡ weighed_by first.entry.line first.entry.column (ahead_of reader.old) }
+fn weight(mut line: Line<'_>) -> Result<(u32, u32, Option<u32>), Fault>
+    ensures { result ≡ weighed_by line.entry }
 {
-    let Some(place) = reader.next_word() else {
-        return Err(fault(first, Why::Miscounted));
+    let Some(place) = line.next() else {
+        return Err(line.short());
     };
-    let Some(gross) = reader.next_word() else {
-        return Err(fault(first, Why::Miscounted));
+    let Some(gross) = line.next() else {
+        return Err(line.short());
     };
-    let Some(label) = reader.next_word() else {
-        return Ok((number_in(place)?, number_in(gross)?, None));
+    let label = line.next();
+    let None = line.next() else {
+        return Err(line.short());
     };
-    let None = reader.next_word() else {
-        return Err(fault(first, Why::Miscounted));
+    let place = line.number(place)?;
+    let gross = line.number(gross)?;
+    let label = match label {
+        Some(label) => Some(line.number(label)?),
+        None => None,
     };
-    weight_of(place, gross, label)
+    Ok((place, gross, label))
 }
 
 // A command that stands alone.
-fn alone(reader: &mut Reader<'_>, first: Part<'_>, command: Command) -> Result<Command, Fault>
-    ensures { result ≡ alone_by first.entry.line first.entry.column command (ahead_of reader.old) }
+fn alone(mut line: Line<'_>, command: Command) -> Result<Command, Fault>
+    ensures { result ≡ alone_by line.entry command }
 {
-    let None = reader.next_word() else {
-        return Err(fault(first, Why::Miscounted));
+    let None = line.next() else {
+        return Err(line.short());
     };
     Ok(command)
 }
 
-fn by_verb(reader: &mut Reader<'_>, first: Part<'_>, verb: Verb) -> Result<Command, Fault>
-    requires { first.line ≡ reader.old.line }
-    ensures { result ≡ read_as first.entry.line first.entry.column verb (ahead_of reader.old) }
+fn by_verb(line: Line<'_>, verb: Verb) -> Result<Command, Fault>
+    ensures { result ≡ read_line line.entry verb }
 {
     match verb {
-        Verb::Lot => lot(reader, first),
+        Verb::Lot => lot(line),
         Verb::Wt => {
-            let (place, gross, label) = weight(reader, first)?;
+            let (place, gross, label) = weight(line)?;
             Ok(Command::Call(Call::Weigh {
                 place,
                 gross,
@@ -162,18 +127,18 @@ fn by_verb(reader: &mut Reader<'_>, first: Part<'_>, verb: Verb) -> Result<Comma
             }))
         }
         Verb::Fix => {
-            let (place, gross, label) = weight(reader, first)?;
+            let (place, gross, label) = weight(line)?;
             Ok(Command::Call(Call::Correct {
                 place,
                 gross,
                 label,
             }))
         }
-        Verb::Del => strike(reader, first),
-        Verb::Op => tare(reader, first),
-        Verb::Set => alone(reader, first, Command::Call(Call::Settle)),
-        Verb::Re => alone(reader, first, Command::Call(Call::Reopen)),
-        Verb::End => alone(reader, first, Command::End),
+        Verb::Del => strike(line),
+        Verb::Op => tare(line),
+        Verb::Set => alone(line, Command::Call(Call::Settle)),
+        Verb::Re => alone(line, Command::Call(Call::Reopen)),
+        Verb::End => alone(line, Command::End),
     }
 }
 
@@ -192,8 +157,9 @@ pub fn parse(text: &[u8], line: usize) -> Result<Option<Command>, Fault>
     let Some(first) = reader.next_word() else {
         return Ok(None);
     };
-    let Word::Command(_, verb) = sort(first.bytes) else {
-        return Err(fault(first, Why::NotCommand));
+    let line = Line { reader, first };
+    let Word::Command(_, verb) = Word::from(first.bytes) else {
+        return Err(line.fault(first, Why::NotCommand));
     };
-    Ok(Some(by_verb(&mut reader, first, verb)?))
+    by_verb(line, verb).map(Some)
 }

@@ -40,14 +40,26 @@ weighed Cnt = false
 weighed Len = false
 weighed Are = false
 
+-- the printed table of a kind, and what it allows past its last row
+abbrev pub rows : HandbookKind → List (ℕ × Entry)
+rows Msi = printed.msi
+rows Mus = printed.mus
+rows Lsi = printed.lsi
+rows Cnt = printed.cnt
+rows Len = printed.len
+rows Are = []
+
+abbrev pub past : HandbookKind → Entry
+past Msi = Tenths 20
+past Mus = Tenths 20
+past Lsi = Tenths 10
+past Cnt = Whole 15
+past Len = Tenths 50
+past Are = Tenths 30
+
 -- the entry of a label: the first row of the kind's table that reaches it, and past the last row what the table says there
 abbrev pub entry : HandbookKind → ℕ → Entry
-entry Msi = reached printed.msi (Tenths 20)
-entry Mus = reached printed.mus (Tenths 20)
-entry Lsi = reached printed.lsi (Tenths 10)
-entry Cnt = reached printed.cnt (Whole 15)
-entry Len = reached printed.len (Tenths 50)
-entry Are = reached [] (Tenths 30)
+entry kind = reached (rows kind) (past kind)
 
 abbrev pub handbook : HandbookKind → Meaning
 handbook kind = record { word = word kind; weighed = weighed kind; mav = λ label. allowed (entry kind label) label }

@@ -1,6 +1,5 @@
-ghost use Rattle.std.specs.Prelude.{◌≡◌, T, Some, None, MatchResult};
-ghost use Rattle.kinds.specs.Entries.{allowed as allowed_by};
-ghost use Rattle.kinds.specs.Handbook.{handbook as meaning_of, entry as entry_of, kind_of, all_ascend};
+ghost use Rattle.std.specs.Prelude.{◌≡◌, Some, None, MatchResult, IsTrue};
+ghost use Rattle.kinds.specs.Handbook.{handbook as meaning_of, rows, past, entry, kind_of, all_ascend};
 ghost use Rattle.kinds.specs.Bounds.{handbook_bounds};
 
 use crate::entry::Entry;
@@ -8,7 +7,6 @@ use crate::kind::Kind;
 use crate::label::Label;
 use crate::printed::{CNT, LEN, LSI, MSI, MUS};
 use crate::unknown::UnknownKind;
-use rounding::nearest;
 use tables::reached;
 
 // The kinds of the handbook: weight in milligrams and in ten-thousandths of a pound, liquid volume in tenths of a
@@ -41,30 +39,27 @@ impl TryFrom<&[u8]> for HandbookKind {
     }
 }
 
-fn entry_of(kind: HandbookKind, label: Label) -> Entry
-    ensures { result ≡ entry_of kind label.units }
-{
-    let units = label.units();
-    match kind {
-        HandbookKind::Msi => reached(&MSI, Entry::Tenths(20), units),
-        HandbookKind::Mus => reached(&MUS, Entry::Tenths(20), units),
-        HandbookKind::Lsi => reached(&LSI, Entry::Tenths(10), units),
-        HandbookKind::Cnt => reached(&CNT, Entry::Whole(15), units),
-        HandbookKind::Len => reached(&LEN, Entry::Tenths(50), units),
-        HandbookKind::Are => Entry::Tenths(30),
+impl HandbookKind {
+    // The printed table, and what it allows past its last row.
+    fn table(self) -> (&'static [(u64, Entry)], Entry)
+        ensures rows { result.0.now ≡ rows self }
+        ensures past { result.1 ≡ past self }
+    {
+        match self {
+            HandbookKind::Msi => (&MSI, Entry::Tenths(20)),
+            HandbookKind::Mus => (&MUS, Entry::Tenths(20)),
+            HandbookKind::Lsi => (&LSI, Entry::Tenths(10)),
+            HandbookKind::Cnt => (&CNT, Entry::Whole(15)),
+            HandbookKind::Len => (&LEN, Entry::Tenths(50)),
+            HandbookKind::Are => (&[], Entry::Tenths(30)),
+        }
     }
-}
 
-fn allowed(entry: Entry, label: Label) -> (u64, u16)
-    ensures { result ≡ allowed_by entry label.units }
-{
-    match entry {
-        Entry::Fixed(units) => (units, 1),
-        Entry::Tenths(tenths) => (label.units() * u64::from(tenths), 1_000),
-        Entry::Whole(tenths) => (
-            nearest(label.units() * u64::from(tenths), 1_000).unwrap(),
-            1,
-        ),
+    fn entry(self, label: Label) -> Entry
+        ensures { result ≡ entry self label.units }
+    {
+        let (rows, past) = self.table();
+        reached(rows, past, label.units())
     }
 }
 
@@ -92,11 +87,11 @@ impl Kind for HandbookKind {
     }
 
     fn mav(&self, label: Label) -> (u64, u16) {
-        allowed(entry_of(*self, label), label)
+        self.entry(label).allowed(label)
     }
 }
 
 // Each row of each printed table reaches further than the row before it.
 pub fn rows_ascend()
-    ensures { T all_ascend }
+    ensures { IsTrue all_ascend }
 {}

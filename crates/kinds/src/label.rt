@@ -12,7 +12,7 @@ impl Label {
     pub fn new(units: u64) -> Option<Label>
         ensures { MatchOption result ((1 ≤ units) × (units ≤ 10 ^ 11) → ⊥) (λ label. label.units ≡ units) }
     {
-        if 1 <= units && units <= 100_000_000_000 {
+        if (1..=100_000_000_000).contains(&units) {
             Some(Label { units })
         } else {
             None

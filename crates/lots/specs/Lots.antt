@@ -1,5 +1,5 @@
 -- A lot, and the plan by which it is inspected.
-use Rattle.std.specs.Prelude.{ℕ, ◌*◌, Bool, true, cond, not, ◌&&◌, ◌||◌, List, is_some, Some, None, Ok, Err, Option, Result, ◌==◌, nat_le}
+use Rattle.std.specs.Prelude.{ℕ, ◌*◌, Bool, true, if◌then◌else◌, not, ◌&&◌, ◌||◌, List, is_some, Some, None, Ok, Err, Option, Result, ◌==◌, nat_le}
 use Rattle.categories.specs.declared.plan.Plan.{Plan}
 use Rattle.categories.specs.Meaning.{Sampling}
 use Rattle.kinds.specs.Handbook.{weight, count}
@@ -11,6 +11,9 @@ use Rattle.lots.specs.declared.lot.LotFault.TheVariants.{OutOfRange, NotTaken}
 abbrev pub label_in_range : Option ℕ → Bool
 label_in_range None = true
 label_in_range (Some label) = nat_le 1 label && nat_le label 999999
+
+abbrev pub division_in_range : ℕ → Bool
+division_in_range division = nat_le 1 division && nat_le division 100000
 
 abbrev pub in_range : Lot → Bool
 in_range lot =
@@ -33,11 +36,11 @@ taken (Some sampling) = Ok sampling.plan
 -- the plan, by the meanings of category and kind
 abbrev pub planned : (ℕ → List ℕ → ℕ → Option Sampling) → Meaning → Lot → Result Plan LotFault
 planned category kind lot =
-    cond (in_range lot)
-    (cond (suits kind.word lot) (taken (category lot.size kind.word (units lot.label lot.division))) (Err NotTaken))
-    (Err OutOfRange)
+    if in_range lot then
+    (if suits kind.word lot then taken (category lot.size kind.word (units lot.label lot.division)) else Err NotTaken)
+    else Err OutOfRange
 
 -- the MAV of a package by its label in divisions; none where label or division is out of range
 abbrev pub package_mav : Meaning → ℕ → ℕ → Option (ℕ × ℕ)
 package_mav kind division label =
-    cond (label_in_range (Some label) && (nat_le 1 division && nat_le division 100000)) (Some (kind.mav (label * division))) None
+    if label_in_range (Some label) && division_in_range division then Some (kind.mav (label * division)) else None

@@ -1,51 +1,21 @@
-ghost use Rattle.std.specs.Prelude.{◌≡◌, ◌&&◌, Some, nat_le};
-ghost use Rattle.lots.specs.Lots.{label_in_range, in_range, suits, package_mav, planned};
+ghost use Rattle.std.specs.Prelude.{◌≡◌};
+ghost use Rattle.lots.specs.Lots.{package_mav, planned};
 
-use crate::lot::{Lot, LotFault};
+use crate::lot::{Lot, LotFault, is_division, is_label};
 use categories::category::Category;
 use categories::plan::Plan;
 use kinds::kind::Kind;
 use kinds::label::Label;
-use kinds::words::{is_count, is_weight};
-
-fn is_label(label: u32) -> bool
-    ensures { result ≡ label_in_range (Some label) }
-{
-    (1..=999_999).contains(&label)
-}
-
-fn is_division(division: u32) -> bool
-    ensures { result ≡ (nat_le 1 division && nat_le division 100000) }
-{
-    (1..=100_000).contains(&division)
-}
-
-fn is_in_range(lot: Lot) -> bool
-    ensures { result ≡ in_range lot }
-{
-    (1..=1_000_000).contains(&lot.size)
-        && is_division(lot.division)
-        && lot.label.is_none_or(is_label)
-        && lot.allowance <= 100
-}
-
-// Random lots and allowances are for weights, and counts are read in single items.
-fn is_suited(word: &str, lot: Lot) -> bool
-    ensures { result ≡ suits word.now lot }
-{
-    let plain = lot.label.is_some() && lot.allowance == 0;
-    (is_weight(word) || plain) && (!is_count(word) || lot.division == 1)
-}
 
 // The plan by which the lot is inspected.
 pub fn plan_lot<C: Category, K: Kind>(category: &C, kind: &K, lot: Lot) -> Result<Plan, LotFault>
     ensures { result ≡ planned (C.Category.meaning category.now) (K.Kind.meaning kind.now) lot }
 {
-    if !is_in_range(lot) {
+    if !lot.is_in_range() {
         return Err(LotFault::OutOfRange);
     }
     let word = kind.word();
-    if !is_suited(word, lot) {
+    if !lot.suits(word) {
         return Err(LotFault::NotTaken);
     }
     category

@@ -1,9 +1,11 @@
 -- Rounding to the nearest whole number, a half to the even one.
-use Rattle.std.specs.Prelude.{◌≡◌, ℕ, ◌+◌, ◌-◌, ◌*◌, ◌/◌, ◌%◌, ◌≤◌, cond, nat_lt}
+use Rattle.std.specs.Prelude.{◌≡◌, ℕ, ◌+◌, ◌-◌, ◌*◌, ◌/◌, ◌%◌, ◌≤◌, if◌then◌else◌, nat_lt}
 
 -- below half, above half, at the half
 abbrev pub nearest : ℕ → ℕ → ℕ
-nearest sum parts = cond (nat_lt (2 * (sum % parts)) parts) (sum / parts) (cond (nat_lt parts (2 * (sum % parts))) (sum / parts + 1) (sum / parts + sum / parts % 2))
+nearest sum parts =
+    if nat_lt (2 * (sum % parts)) parts then sum / parts else
+    (if nat_lt parts (2 * (sum % parts)) then sum / parts + 1 else sum / parts + sum / parts % 2)
 
 -- how far two whole numbers are apart
 abbrev pub apart : ℕ → ℕ → ℕ

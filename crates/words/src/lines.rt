@@ -6,10 +6,5 @@ pub fn line_length(text: &[u8]) -> usize
     ensures is { result ≡ line_length text.now }
     ensures within { result ≤ length text.now }
 {
-    for (n, byte) in text.iter().enumerate() {
-        if *byte == b'\n' {
-            return n;
-        }
-    }
-    text.len()
+    text.iter().take_while(|byte| **byte != b'\n').count()
 }

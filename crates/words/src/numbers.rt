@@ -1,16 +1,14 @@
 ghost use Rattle.std.specs.Prelude.{◌≡◌};
-ghost use Rattle.std.specs.Str.{all_ascii_digits};
+ghost use Rattle.std.specs.Char.{is_ascii_digit};
+ghost use Rattle.std.specs.List.{list_all};
 ghost use Rattle.words.specs.Numbers.{number_of};
 
+use std::str;
+
 fn all_digits(bytes: &[u8]) -> bool
-    ensures { result ≡ all_ascii_digits bytes.now }
+    ensures { result ≡ list_all is_ascii_digit bytes.now }
 {
-    for byte in bytes {
-        if !byte.is_ascii_digit() {
-            return false;
-        }
-    }
-    true
+    bytes.iter().all(|byte| byte.is_ascii_digit())
 }
 
 // One to nine decimal digits, with no zero in front but 0 itself.
@@ -23,9 +21,8 @@ pub fn read_number(bytes: &[u8]) -> Option<u32>
     if bytes[0] == b'0' && bytes.len() > 1 {
         return None;
     }
-    let mut number = 0;
-    for byte in bytes {
-        number = number * 10 + u32::from(*byte - b'0');
-    }
-    Some(number)
+    let Ok(digits) = str::from_utf8(bytes) else {
+        return None;
+    };
+    digits.parse().ok()
 }

@@ -12,7 +12,7 @@ pub struct Reader<'a> {
 }
 
 // A word, as that part of the text, and where it begins.
-#[derive(Clone, Copy)]
+#[derive(Clone, Copy, Debug, PartialEq, Eq)]
 pub struct Part<'a> {
     pub line: usize,
     pub column: usize,

@@ -9,12 +9,7 @@ fn spaces(bytes: &[u8]) -> usize
     ensures is { result ≡ gap bytes.now }
     ensures within { result ≤ length bytes.now }
 {
-    for (n, byte) in bytes.iter().enumerate() {
-        if *byte != b' ' {
-            return n;
-        }
-    }
-    bytes.len()
+    bytes.iter().take_while(|byte| **byte == b' ').count()
 }
 
 // How many bytes stand before the next space or line feed.
@@ -22,12 +17,10 @@ fn word_length(bytes: &[u8]) -> usize
     ensures is { result ≡ word_length bytes.now }
     ensures within { result ≤ length bytes.now }
 {
-    for (n, byte) in bytes.iter().enumerate() {
-        if *byte == b' ' || *byte == b'\n' {
-            return n;
-        }
-    }
-    bytes.len()
+    bytes
+        .iter()
+        .take_while(|byte| **byte != b' ' && **byte != b'\n')
+        .count()
 }
 
 impl<'a> Reader<'a> {

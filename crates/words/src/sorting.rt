@@ -1,54 +1,43 @@
-ghost use Rattle.std.specs.Prelude.{◌≡◌};
-ghost use Rattle.std.specs.Str.{bytes_eq};
+ghost use Rattle.std.specs.Prelude.{◌≡◌, Some, None, MatchResult};
 ghost use Rattle.words.specs.Sorts.{verb_of, Sorted};
 
 use crate::numbers::read_number;
-use crate::word::{Verb, Word};
+use crate::word::{UnknownVerb, Verb, Word};
 
-// The same bytes in the same order.
-pub fn same(bytes: &[u8], name: &[u8]) -> bool
-    ensures { result ≡ bytes_eq bytes.now name.now }
-{
-    bytes == name
-}
+impl TryFrom<&[u8]> for Verb {
+    type Error = UnknownVerb;
 
-fn verb_of(bytes: &[u8]) -> Option<Verb>
-    ensures { result ≡ verb_of bytes.now }
-{
-    if same(bytes, b"lot") {
-        Some(Verb::Lot)
-    } else if same(bytes, b"wt") {
-        Some(Verb::Wt)
-    } else if same(bytes, b"fix") {
-        Some(Verb::Fix)
-    } else if same(bytes, b"del") {
-        Some(Verb::Del)
-    } else if same(bytes, b"op") {
-        Some(Verb::Op)
-    } else if same(bytes, b"set") {
-        Some(Verb::Set)
-    } else if same(bytes, b"re") {
-        Some(Verb::Re)
-    } else if same(bytes, b"end") {
-        Some(Verb::End)
-    } else {
-        None
+    ghost try_from_gives = { λ word r. MatchResult r (λ verb. verb_of word.now ≡ Some verb) (λ _. verb_of word.now ≡ None) };
+
+    fn try_from(word: &[u8]) -> Result<Self, UnknownVerb> {
+        match word {
+            b"lot" => Ok(Verb::Lot),
+            b"wt" => Ok(Verb::Wt),
+            b"fix" => Ok(Verb::Fix),
+            b"del" => Ok(Verb::Del),
+            b"op" => Ok(Verb::Op),
+            b"set" => Ok(Verb::Set),
+            b"re" => Ok(Verb::Re),
+            b"end" => Ok(Verb::End),
+            _ => Err(UnknownVerb),
+        }
     }
 }
 
 // Which of the four a word is. It is never two of them.
-pub fn sort(bytes: &[u8]) -> Word<'_>
-    ensures { Sorted bytes.entry result }
-{
-    if let Some(verb) = verb_of(bytes) {
-        return Word::Command(bytes, verb);
-    }
-    if let Some(number) = read_number(bytes) {
-        return Word::Number(bytes, number);
-    }
-    if same(bytes, b"-") {
-        Word::Dash(bytes)
-    } else {
-        Word::Other(bytes)
+impl<'a> From<&'a [u8]> for Word<'a> {
+    ghost from_gives = { Sorted };
+
+    fn from(bytes: &'a [u8]) -> Self {
+        if let Ok(verb) = Verb::try_from(bytes) {
+            return Word::Command(bytes, verb);
+        }
+        if let Some(number) = read_number(bytes) {
+            return Word::Number(bytes, number);
+        }
+        match bytes {
+            b"-" => Word::Dash(bytes),
+            _ => Word::Other(bytes),
+        }
     }
 }

@@ -1,5 +1,5 @@
 // The commands, each by its first word.
-#[derive(Clone, Copy)]
+#[derive(Clone, Copy, Debug, PartialEq, Eq)]
 pub enum Verb {
     Lot,
     Wt,
@@ -11,8 +11,12 @@ pub enum Verb {
     End,
 }
 
+// A word that is no command.
+#[derive(Clone, Copy, Debug, PartialEq, Eq)]
+pub struct UnknownVerb;
+
 // What a word is, with its own part of the text.
-#[derive(Clone, Copy)]
+#[derive(Clone, Copy, Debug, PartialEq, Eq)]
 pub enum Word<'a> {
     Command(&'a [u8], Verb),
     Number(&'a [u8], u32),
