@@ -5,14 +5,10 @@ ghost use Rattle.std.specs.Prelude.{◌<◌, length, IfSome};
 // Prints the transcripts of many texts in one run. Each text comes behind its length in eight digits, and so does its transcript.
 use console::transcribing::transcribe;
 use packages::list::PackageList;
+use packages::package::Package;
+use packages::reading::Reading;
 use packages::records::Random;
 use std::io::{Read, Write};
-
-const EMPTY: Random = Random {
-    gross: None,
-    label: None,
-    tare: None,
-};
 
 fn length_of(digits: &[u8]) -> Option<usize> {
     digits.iter().try_fold(0_usize, |length, digit| {
@@ -34,7 +30,7 @@ fn run(rt: &HostRuntime) -> anyhow::Result<()> {
     let mut input = Vec::new(heap);
     rt.stdin().read_to_end(&mut input)?;
     // the list goes from text to text as the one before left it
-    let mut places = [EMPTY; 48];
+    let mut places = [Random::holding(Reading::Empty); 48];
     let mut list = PackageList::new(&mut places);
     let mut rest = input.as_slice();
     while let Some((text, behind)) = first_text(rest) {

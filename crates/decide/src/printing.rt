@@ -8,7 +8,7 @@ use std::fmt;
 // The plan of the lot on a line.
 #[derive(Clone, Copy)]
 pub struct PlanLines {
-    pub line: u64,
+    pub line: usize,
     pub plan: Plan,
 }
 

@@ -72,7 +72,7 @@ impl From<AllocError> for Untaken {
 // A lot as it was typed, and on which line.
 #[derive(Clone, Copy)]
 pub struct Typed {
-    pub line: u64,
+    pub line: usize,
     pub category: HandbookCategory,
     pub kind: HandbookKind,
     pub lot: Lot,
@@ -86,7 +86,7 @@ pub struct Block {
     pub first: Option<Vec<i32>>,
     pub second: Option<Vec<i32>>,
     // the first line that is wrong
-    pub wrong: Option<(u64, Wrong)>,
+    pub wrong: Option<(usize, Wrong)>,
 }
 
 fn number_of(word: Option<&str>) -> Result<u32, Wrong> {
@@ -103,7 +103,7 @@ fn kind_of(word: Option<&str>) -> Result<HandbookKind, Wrong> {
 }
 
 // `A mus 250 10 1000`, with `-` for the label of a random lot.
-fn read_lot(line: u64, text: &str) -> Result<Typed, Wrong> {
+fn read_lot(line: usize, text: &str) -> Result<Typed, Wrong> {
     let mut words = text.split_whitespace();
     let category = category_of(words.next())?;
     let kind = kind_of(words.next())?;
@@ -149,7 +149,7 @@ impl Block {
         }
     }
 
-    fn take_lot(&mut self, line: u64, text: &str) -> Result<(), Wrong> {
+    fn take_lot(&mut self, line: usize, text: &str) -> Result<(), Wrong> {
         if self.typed.is_some() {
             return Err(Wrong::Order);
         }
@@ -168,7 +168,7 @@ impl Block {
         Ok(())
     }
 
-    fn take(&mut self, heap: Global, line: u64, text: &str) -> Result<(), Untaken> {
+    fn take(&mut self, heap: Global, line: usize, text: &str) -> Result<(), Untaken> {
         let (word, rest) = text.split_once(' ').unwrap_or((text, ""));
         match word {
             "lot" => self.take_lot(line, rest)?,
@@ -180,7 +180,7 @@ impl Block {
     }
 
     // One line more; after the first that is wrong, lines are passed over.
-    pub(crate) fn add(&mut self, heap: Global, line: u64, text: &str) -> Result<(), AllocError> {
+    pub(crate) fn add(&mut self, heap: Global, line: usize, text: &str) -> Result<(), AllocError> {
         if self.wrong.is_some() {
             return Ok(());
         }

@@ -6,13 +6,13 @@ use std::fmt;
 #[derive(Clone, Copy)]
 pub enum Undecided {
     // this line is wrong
-    Line(u64, Wrong),
+    Line(usize, Wrong),
     // its first line is missing
     NoLot,
     // a number of the lot on this line is out of range
-    OutOfRange(u64),
+    OutOfRange(usize),
     // the category does not take the lot on this line
-    NotTaken(u64),
+    NotTaken(usize),
     // the labels are not those of the sample
     Labels,
     // it has no list of errors
