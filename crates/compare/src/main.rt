@@ -1,7 +1,6 @@
 #![tactic(auto)]
 
 // Runs two lists of calls side by side on two new sheets, and says what the rule for two sheets says of their records.
-mod printing;
 mod reading;
 mod working;
 
@@ -13,17 +12,16 @@ fn run(rt: &HostRuntime) -> anyhow::Result<()> {
     let heap = rt.alloc();
     let mut first = Block::new(heap);
     let mut second = Block::new(heap);
-    let mut number: u64 = 0;
-    let mut blanks: u64 = 0;
-    for line in BufReader::new(heap, rt.stdin())?.lines(heap) {
+    let mut parted = false;
+    for (i, line) in BufReader::new(heap, rt.stdin())?.lines(heap).enumerate() {
         let text = line?;
-        number = number.saturating_add(1);
+        let number = i.saturating_add(1);
         if text.trim().is_empty() {
-            blanks = blanks.saturating_add(1);
-        } else if blanks == 0 {
-            first.add(number, text.trim())?;
-        } else {
+            parted = true;
+        } else if parted {
             second.add(number, text.trim())?;
+        } else {
+            first.add(number, text.trim())?;
         }
     }
     work(rt, &first, &second)

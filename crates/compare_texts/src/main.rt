@@ -2,7 +2,6 @@
 
 // Runs two sheet texts side by side on two new sheets, and says what the rule for two sheets says of their records.
 mod playing;
-mod printing;
 mod working;
 
 use std::io::Read;

@@ -1,131 +1,108 @@
-use crate::printing::{print_fault, print_reply};
-use anyhow::anyhow;
-use categories::handbook::HandbookCategory;
 use commands::command::Command;
+use commands::fault::Fault;
 use commands::parsing::parse;
 use console::denial::Denial;
 use console::handling::handle;
 use console::session::Session;
+use findings::answer::Answer;
+use findings::asked::Asked;
+use findings::closed::HandbookStart;
+use history::ending::Start;
 use history::entry::Entry;
-use kinds::handbook::HandbookKind;
-use lots::lot::Lot;
 use packages::list::PackageList;
 use packages::records::Random;
-use sheet::record::Record;
 use std::alloc::{AllocError, Global};
-use words::lines::line_length;
-
-// What a sheet was started from.
-#[derive(Clone, Copy)]
-pub struct Typed {
-    pub category: HandbookCategory,
-    pub kind: HandbookKind,
-    pub lot: Lot,
-}
 
 // An accepted lot and what was asked of its sheet up to its closing.
 #[derive(Drop)]
 pub struct Played {
-    pub typed: Option<Typed>,
+    pub start: Option<HandbookStart>,
     pub entries: Vec<Entry>,
 }
 
 impl Played {
     fn new(heap: Global) -> Played {
         Played {
-            typed: None,
+            start: None,
             entries: Vec::new(heap),
         }
     }
 
-    // A command that was carried out or refused on an open sheet, or started one.
-    fn note(
-        &mut self,
-        command: Command,
-        open: bool,
-        reply: &Result<Option<Record>, Denial>,
-    ) -> Result<(), AllocError> {
-        match (command, open, reply) {
-            (
-                Command::Lot {
-                    category,
-                    kind,
-                    lot,
-                },
-                false,
-                Ok(None),
-            ) => {
-                self.typed = Some(Typed {
+    // A command that started a sheet, or was put to one that is open.
+    fn note(&mut self, command: Command, open: bool, accepted: bool) -> Result<(), AllocError> {
+        match command {
+            Command::Lot {
+                category,
+                kind,
+                lot,
+            } if accepted => {
+                self.start = Some(Start {
                     category,
                     kind,
                     lot,
                 });
-                Ok(())
             }
-            (Command::Call(call), true, _) => Ok(self.entries.push(Entry::Call(call))?),
-            (Command::End, true, _) => Ok(self.entries.push(Entry::Close)?),
-            _ => Ok(()),
+            Command::Call(call) if open => self.entries.push(Entry::Call(call))?,
+            Command::End if open => self.entries.push(Entry::Close)?,
+            _ => {}
         }
+        Ok(())
     }
 }
 
-fn is_open(session: &Session) -> bool {
-    match session {
-        Session::Open(_) => true,
-        Session::Idle | Session::Closed => false,
-    }
+// A line that is not read.
+fn print_fault(rt: &impl Print, fault: Fault) -> anyhow::Result<()> {
+    let line = fault.line;
+    let letter = fault.letter();
+    let number = fault.number();
+    Ok(println!(rt; "line {line}: refused {letter} {number}")?)
+}
+
+fn print_answer(rt: &impl Print, command: Command, denial: Option<Denial>) -> anyhow::Result<()> {
+    let asked = Asked::from(command);
+    let answer = Answer(denial);
+    Ok(println!(rt; "{asked}: {answer}")?)
 }
 
 // One line: it is handled as at the console, noted, and printed with its answer.
 fn play_line(
-    rt: &HostRuntime,
+    rt: &impl Print,
     session: Session,
     list: &mut PackageList<Random>,
     played: &mut Played,
     line: usize,
     text: &[u8],
 ) -> (Session, anyhow::Result<()>) {
-    match parse(text, line) {
-        Err(fault) => (session, print_fault(rt, fault)),
-        Ok(None) => (session, Ok(())),
-        Ok(Some(command)) => {
-            let open = is_open(&session);
-            let (session, reply) = handle(session, list, command);
-            let noted = played.note(command, open, &reply);
-            let printed = print_reply(rt, command, &reply);
-            (
-                session,
-                match noted {
-                    Ok(()) => printed,
-                    Err(error) => Err(anyhow!(error)),
-                },
-            )
-        }
+    let command = match parse(text, line) {
+        Ok(Some(command)) => command,
+        Ok(None) => return (session, Ok(())),
+        Err(fault) => return (session, print_fault(rt, fault)),
+    };
+    let open = matches!(&session, Session::Open(_));
+    let (session, reply) = handle(session, list, command);
+    let noted = played.note(command, open, reply.is_ok());
+    let printed = print_answer(rt, command, reply.err());
+    match noted {
+        Ok(()) => (session, printed),
+        Err(error) => (session, Err(error.into())),
     }
 }
 
 // Plays a text line by line, up to the end or to what cannot be printed.
 pub(crate) fn play(
-    rt: &HostRuntime,
+    rt: &(impl Print + AllocGlobal),
     text: &[u8],
     list: &mut PackageList<Random>,
 ) -> anyhow::Result<Played> {
     let mut played = Played::new(rt.alloc());
     let mut session = Session::Idle;
-    let mut rest = text;
     let mut done = Ok(());
-    for line in 1..65_538 {
-        if rest.is_empty() || done.is_err() {
+    for (i, line) in text.split(|byte| *byte == b'\n').enumerate() {
+        let number = i.saturating_add(1);
+        (session, done) = play_line(rt, session, list, &mut played, number, line);
+        if done.is_err() {
             break;
         }
-        let (here, behind) = rest.split_at(line_length(rest));
-        let (next, printed) = play_line(rt, session, list, &mut played, line, here);
-        session = next;
-        done = printed;
-        rest = match behind.split_first() {
-            Some((_, after)) => after,
-            None => behind,
-        };
     }
     match session {
         Session::Open(sheet) => {

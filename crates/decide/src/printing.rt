@@ -1,134 +1,102 @@
-use crate::reading::Wrong;
 use categories::plan::Plan;
-use comparison::premises::Comparison;
 use decision::measuring::{is_short, is_unreasonable};
-use decision::outcome::{Decision, Fault, Verdict};
+use decision::outcome::Decision;
 use decision::rule::Counted;
+use findings::outcome::Outcome;
+use std::fmt;
 
-pub(crate) fn print_wrong(rt: &HostRuntime, line: u64, wrong: Wrong) -> anyhow::Result<()> {
-    let what = match wrong {
-        Wrong::Order => "a lot begins with one line `lot`, then lines `labels` and `errors`",
-        Wrong::Words => "a lot is category, kind, lot size, division and label",
-        Wrong::Category => "the category is A, B or C",
-        Wrong::Kind => "the kind is msi, mus, lsi, cnt, len or are",
-        Wrong::Number => "a number is a whole number in range",
-        Wrong::Lists => "a lot has at most two lists of errors",
-    };
-    println!(rt; "no decision: line {line}: {what}")?;
-    Ok(())
+// The plan of the lot on a line.
+#[derive(Clone, Copy)]
+pub struct PlanLines {
+    pub line: usize,
+    pub plan: Plan,
 }
 
-pub(crate) fn print_fault(rt: &HostRuntime, fault: Fault, sample: u32) -> anyhow::Result<()> {
-    match fault {
-        Fault::Count | Fault::Mavs => println!(rt;
-            "no decision: the sample has {sample} packages, and so has a list of errors"
-        )?,
-        Fault::Range(place) => {
-            let package = place.saturating_add(1);
-            println!(rt; "no decision: the error of package {package} is not from -8000 to 8000")?;
-        }
-        Fault::Factor | Fault::Allowed | Fault::Average => println!(rt;
-            "no decision: the plan is out of range"
-        )?,
+impl fmt::Display for PlanLines {
+    fn fmt<W: fmt::Write>(&self, f: &mut fmt::Formatter<W>) -> fmt::Result {
+        let line = self.line;
+        let sample = self.plan.sample;
+        let factor = self.plan.rule.factor;
+        let allowed = self.plan.rule.allowed;
+        let counted = match self.plan.rule.counted {
+            Counted::Unreasonable => "unreasonable",
+            Counted::Short => "short",
+        };
+        write!(
+            f,
+            "lot on line {line}\nsample {sample}\nfactor {factor}\nallowed {allowed} {counted}"
+        )
     }
-    Ok(())
 }
 
-pub(crate) fn print_plan(rt: &HostRuntime, line: u64, plan: Plan) -> anyhow::Result<()> {
-    let counted = match plan.rule.counted {
-        Counted::Unreasonable => "unreasonable",
-        Counted::Short => "short",
-    };
-    let sample = plan.sample;
-    let factor = plan.rule.factor;
-    let allowed = plan.rule.allowed;
-    println!(rt; "lot on line {line}")?;
-    println!(rt; "sample {sample}")?;
-    println!(rt; "factor {factor}")?;
-    println!(rt; "allowed {allowed} {counted}")?;
-    Ok(())
-}
-
-fn print_package(
-    rt: &HostRuntime,
+// A package of the sample: its place from 0, its error and its MAV, of a division of so many base units.
+#[derive(Clone, Copy)]
+struct PackageLine {
     place: usize,
     error: i32,
     mav: (u64, u16),
     division: u32,
-) -> anyhow::Result<()> {
-    let (numerator, denominator) = mav;
-    let short = if is_short(error) { " short" } else { "" };
-    let unreasonable = if is_unreasonable(error, division, mav) {
-        " unreasonable"
-    } else {
-        ""
-    };
-    let package = place.saturating_add(1);
-    println!(rt;
-        "package {package} mav {numerator}/{denominator} error {error}{short}{unreasonable}"
-    )?;
-    Ok(())
 }
 
-pub(crate) fn print_packages(
-    rt: &HostRuntime,
-    errors: &[i32],
-    mavs: &[(u64, u16)],
-    division: u32,
-) -> anyhow::Result<()> {
-    for (i, (error, mav)) in errors.iter().zip(mavs.iter()).enumerate() {
-        print_package(rt, i, *error, *mav, division)?;
+impl fmt::Display for PackageLine {
+    fn fmt<W: fmt::Write>(&self, f: &mut fmt::Formatter<W>) -> fmt::Result {
+        let package = self.place.saturating_add(1);
+        let (numerator, denominator) = self.mav;
+        let error = self.error;
+        let short = if is_short(error) { " short" } else { "" };
+        let unreasonable = if is_unreasonable(error, self.division, self.mav) {
+            " unreasonable"
+        } else {
+            ""
+        };
+        write!(
+            f,
+            "package {package} mav {numerator}/{denominator} error {error}{short}{unreasonable}"
+        )
     }
-    Ok(())
 }
 
-pub(crate) fn print_decision(rt: &HostRuntime, decision: Decision) -> anyhow::Result<()> {
-    let verdict = match decision.verdict {
-        Verdict::Mav => "mav: fails",
-        Verdict::Plan => "plan: passes",
-        Verdict::Over => "over: passes",
-        Verdict::Average => "average: fails",
-        Verdict::Within => "within: passes",
-    };
-    let figures = decision.figures;
-    let total = figures.total;
-    let squares = figures.squares;
-    let short = figures.short;
-    let unreasonable = figures.unreasonable;
-    let deviation = decision.deviation;
-    let limit = decision.limit;
-    println!(rt; "total {total}")?;
-    println!(rt; "squares {squares}")?;
-    println!(rt; "short {short}")?;
-    println!(rt; "unreasonable {unreasonable}")?;
-    println!(rt; "deviation {deviation}")?;
-    println!(rt; "limit {limit}")?;
-    println!(rt; "verdict {verdict}")?;
-    Ok(())
-}
+#[derive(Clone, Copy)]
+struct DecisionLines(Decision);
 
-// What the rule for two lists says of them.
-pub(crate) fn print_comparison(rt: &HostRuntime, comparison: Comparison) -> anyhow::Result<()> {
-    if let Some(place) = comparison.premises.lower {
-        let package = place.saturating_add(1);
-        println!(rt; "nothing follows: the error of package {package} is lower")?;
-        return Ok(());
+impl fmt::Display for DecisionLines {
+    fn fmt<W: fmt::Write>(&self, f: &mut fmt::Formatter<W>) -> fmt::Result {
+        let figures = self.0.figures;
+        let total = figures.total;
+        let squares = figures.squares;
+        let short = figures.short;
+        let unreasonable = figures.unreasonable;
+        let deviation = self.0.deviation;
+        let limit = self.0.limit;
+        let verdict = Outcome(self.0.verdict);
+        writeln!(f, "total {total}\nsquares {squares}")?;
+        writeln!(f, "short {short}\nunreasonable {unreasonable}")?;
+        write!(f, "deviation {deviation}\nlimit {limit}\nverdict {verdict}")
     }
-    println!(rt; "no error lower: at most as many counted")?;
-    match comparison.premises.crossed {
-        None => println!(rt; "rises keep the order: passes if the first did")?,
-        Some((low, high)) => {
-            let one = low.saturating_add(1);
-            let other = high.saturating_add(1);
-            println!(rt;
-                "nothing follows from the order: package {one} stood below package {other} and rose by more"
-            )?;
+}
+
+// A list of errors that is decided, with the MAVs and the division that it is decided by.
+#[derive(Clone, Copy)]
+pub struct DecidedLines<'a> {
+    pub errors: &'a [i32],
+    pub mavs: &'a [(u64, u16)],
+    pub division: u32,
+    pub decision: Decision,
+}
+
+impl<'a> fmt::Display for DecidedLines<'a> {
+    fn fmt<W: fmt::Write>(&self, f: &mut fmt::Formatter<W>) -> fmt::Result {
+        let division = self.division;
+        for (place, (error, mav)) in self.errors.iter().zip(self.mavs).enumerate() {
+            let line = PackageLine {
+                place,
+                error: *error,
+                mav: *mav,
+                division,
+            };
+            writeln!(f, "{line}")?;
         }
+        let decision = DecisionLines(self.decision);
+        write!(f, "{decision}")
     }
-    if comparison.premises.average {
-        println!(rt; "average not below zero: passes if the first did")?;
-    } else {
-        println!(rt; "nothing follows from the average: it is below zero")?;
-    }
-    Ok(())
 }

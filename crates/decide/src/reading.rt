@@ -1,7 +1,12 @@
 use categories::handbook::HandbookCategory;
+use categories::unknown::UnknownCategory;
 use kinds::handbook::HandbookKind;
+use kinds::unknown::UnknownKind;
 use lots::lot::Lot;
 use std::alloc::{AllocError, Global};
+use std::fmt;
+use std::num::ParseIntError;
+use std::str::FromStr;
 
 // What is wrong with a line.
 #[derive(Clone, Copy)]
@@ -14,10 +19,60 @@ pub enum Wrong {
     Lists,
 }
 
+impl fmt::Display for Wrong {
+    fn fmt<W: fmt::Write>(&self, f: &mut fmt::Formatter<W>) -> fmt::Result {
+        f.write_str(match self {
+            Wrong::Order => "a lot begins with one line `lot`, then lines `labels` and `errors`",
+            Wrong::Words => "a lot is category, kind, lot size, division and label",
+            Wrong::Category => "the category is A, B or C",
+            Wrong::Kind => "the kind is msi, mus, lsi, cnt, len or are",
+            Wrong::Number => "a number is a whole number in range",
+            Wrong::Lists => "a lot has at most two lists of errors",
+        })
+    }
+}
+
+impl From<UnknownCategory> for Wrong {
+    fn from(_: UnknownCategory) -> Wrong {
+        Wrong::Category
+    }
+}
+
+impl From<UnknownKind> for Wrong {
+    fn from(_: UnknownKind) -> Wrong {
+        Wrong::Kind
+    }
+}
+
+impl From<ParseIntError> for Wrong {
+    fn from(_: ParseIntError) -> Wrong {
+        Wrong::Number
+    }
+}
+
+// Why a line is not taken.
+#[derive(Drop)]
+enum Untaken {
+    Wrong(Wrong),
+    OutOfMemory(AllocError),
+}
+
+impl From<Wrong> for Untaken {
+    fn from(wrong: Wrong) -> Untaken {
+        Untaken::Wrong(wrong)
+    }
+}
+
+impl From<AllocError> for Untaken {
+    fn from(error: AllocError) -> Untaken {
+        Untaken::OutOfMemory(error)
+    }
+}
+
 // A lot as it was typed, and on which line.
 #[derive(Clone, Copy)]
 pub struct Typed {
-    pub line: u64,
+    pub line: usize,
     pub category: HandbookCategory,
     pub kind: HandbookKind,
     pub lot: Lot,
@@ -28,61 +83,30 @@ pub struct Typed {
 pub struct Block {
     pub typed: Option<Typed>,
     pub labels: Vec<u32>,
-    pub first: Vec<i32>,
-    pub second: Vec<i32>,
-    // how many lists of errors there are
-    pub lists: u8,
+    pub first: Option<Vec<i32>>,
+    pub second: Option<Vec<i32>>,
     // the first line that is wrong
-    pub wrong: Option<(u64, Wrong)>,
-}
-
-fn category_of(word: &str) -> Option<HandbookCategory> {
-    let mut letters = word.chars();
-    match (letters.next(), letters.next()) {
-        (Some('A'), None) => Some(HandbookCategory::A),
-        (Some('B'), None) => Some(HandbookCategory::B),
-        (Some('C'), None) => Some(HandbookCategory::C),
-        _ => None,
-    }
-}
-
-fn kind_of(word: &str) -> Option<HandbookKind> {
-    match word {
-        "msi" => Some(HandbookKind::Msi),
-        "mus" => Some(HandbookKind::Mus),
-        "lsi" => Some(HandbookKind::Lsi),
-        "cnt" => Some(HandbookKind::Cnt),
-        "len" => Some(HandbookKind::Len),
-        "are" => Some(HandbookKind::Are),
-        _ => None,
-    }
+    pub wrong: Option<(usize, Wrong)>,
 }
 
 fn number_of(word: Option<&str>) -> Result<u32, Wrong> {
-    let Some(text) = word else {
-        return Err(Wrong::Words);
-    };
-    match text.parse::<u32>() {
-        Ok(number) => Ok(number),
-        Err(_) => Err(Wrong::Number),
-    }
+    Ok(word.ok_or(Wrong::Words)?.parse::<u32>()?)
+}
+
+fn category_of(word: Option<&str>) -> Result<HandbookCategory, Wrong> {
+    let letter = word.ok_or(Wrong::Words)?.parse::<char>();
+    Ok(HandbookCategory::try_from(letter.map_err(|_| Wrong::Category)?)?)
+}
+
+fn kind_of(word: Option<&str>) -> Result<HandbookKind, Wrong> {
+    Ok(HandbookKind::try_from(word.ok_or(Wrong::Words)?.as_bytes())?)
 }
 
 // `A mus 250 10 1000`, with `-` for the label of a random lot.
-fn read_lot(line: u64, text: &str) -> Result<Typed, Wrong> {
+fn read_lot(line: usize, text: &str) -> Result<Typed, Wrong> {
     let mut words = text.split_whitespace();
-    let Some(letter) = words.next() else {
-        return Err(Wrong::Words);
-    };
-    let Some(category) = category_of(letter) else {
-        return Err(Wrong::Category);
-    };
-    let Some(word) = words.next() else {
-        return Err(Wrong::Words);
-    };
-    let Some(kind) = kind_of(word) else {
-        return Err(Wrong::Kind);
-    };
+    let category = category_of(words.next())?;
+    let kind = kind_of(words.next())?;
     let size = number_of(words.next())?;
     let division = number_of(words.next())?;
     let label = match words.next() {
@@ -105,28 +129,13 @@ fn read_lot(line: u64, text: &str) -> Result<Typed, Wrong> {
     })
 }
 
-// None where a word is no whole number.
-fn read_labels(heap: Global, text: &str) -> Result<Option<Vec<u32>>, AllocError> {
-    let mut labels = Vec::new(heap);
-    for word in text.split_whitespace() {
-        let Ok(label) = word.parse::<u32>() else {
-            return Ok(None);
-        };
-        labels.push(label)?;
-    }
-    Ok(Some(labels))
-}
-
-// None where a word is no whole number.
-fn read_errors(heap: Global, text: &str) -> Result<Option<Vec<i32>>, AllocError> {
-    let mut errors = Vec::new(heap);
-    for word in text.split_whitespace() {
-        let Ok(error) = word.parse::<i32>() else {
-            return Ok(None);
-        };
-        errors.push(error)?;
-    }
-    Ok(Some(errors))
+fn numbers_of<N: FromStr<Err = ParseIntError> + Drop>(
+    heap: Global,
+    text: &str,
+) -> Result<Vec<N>, Untaken> {
+    text.split_whitespace()
+        .map(|word| word.parse::<N>().map_err(|_| Untaken::Wrong(Wrong::Number)))
+        .try_collect(heap)
 }
 
 impl Block {
@@ -134,62 +143,54 @@ impl Block {
         Block {
             typed: None,
             labels: Vec::new(heap),
-            first: Vec::new(heap),
-            second: Vec::new(heap),
-            lists: 0,
+            first: None,
+            second: None,
             wrong: None,
         }
     }
 
-    fn take_lot(&mut self, line: u64, text: &str) -> Option<Wrong> {
+    fn take_lot(&mut self, line: usize, text: &str) -> Result<(), Wrong> {
         if self.typed.is_some() {
-            return Some(Wrong::Order);
+            return Err(Wrong::Order);
         }
-        match read_lot(line, text) {
-            Ok(typed) => {
-                self.typed = Some(typed);
-                None
-            }
-            Err(wrong) => Some(wrong),
-        }
+        self.typed = Some(read_lot(line, text)?);
+        Ok(())
     }
 
-    fn take_labels(&mut self, heap: Global, text: &str) -> Result<Option<Wrong>, AllocError> {
-        let Some(labels) = read_labels(heap, text)? else {
-            return Ok(Some(Wrong::Number));
-        };
-        self.labels = labels;
-        Ok(None)
+    fn take_errors(&mut self, errors: Vec<i32>) -> Result<(), Wrong> {
+        if self.first.is_none() {
+            self.first = Some(errors);
+        } else if self.second.is_none() {
+            self.second = Some(errors);
+        } else {
+            return Err(Wrong::Lists);
+        }
+        Ok(())
     }
 
-    fn take_errors(&mut self, heap: Global, text: &str) -> Result<Option<Wrong>, AllocError> {
-        let Some(errors) = read_errors(heap, text)? else {
-            return Ok(Some(Wrong::Number));
-        };
-        match self.lists {
-            0 => self.first = errors,
-            1 => self.second = errors,
-            _ => return Ok(Some(Wrong::Lists)),
+    fn take(&mut self, heap: Global, line: usize, text: &str) -> Result<(), Untaken> {
+        let (word, rest) = text.split_once(' ').unwrap_or((text, ""));
+        match word {
+            "lot" => self.take_lot(line, rest)?,
+            "labels" => self.labels = numbers_of(heap, rest)?,
+            "errors" => self.take_errors(numbers_of(heap, rest)?)?,
+            _ => return Err(Untaken::Wrong(Wrong::Order)),
         }
-        self.lists = self.lists.saturating_add(1);
-        Ok(None)
+        Ok(())
     }
 
     // One line more; after the first that is wrong, lines are passed over.
-    pub(crate) fn add(&mut self, heap: Global, number: u64, text: &str) -> Result<(), AllocError> {
+    pub(crate) fn add(&mut self, heap: Global, line: usize, text: &str) -> Result<(), AllocError> {
         if self.wrong.is_some() {
             return Ok(());
         }
-        let (word, rest) = text.split_once(' ').unwrap_or((text, ""));
-        let wrong = match word {
-            "lot" => self.take_lot(number, rest),
-            "labels" => self.take_labels(heap, rest)?,
-            "errors" => self.take_errors(heap, rest)?,
-            _ => Some(Wrong::Order),
-        };
-        if let Some(wrong) = wrong {
-            self.wrong = Some((number, wrong));
+        match self.take(heap, line, text) {
+            Ok(()) => Ok(()),
+            Err(Untaken::Wrong(wrong)) => {
+                self.wrong = Some((line, wrong));
+                Ok(())
+            }
+            Err(Untaken::OutOfMemory(error)) => Err(error),
         }
-        Ok(())
     }
 }

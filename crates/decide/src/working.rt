@@ -1,14 +1,19 @@
-use crate::printing::{
-    print_comparison, print_decision, print_fault, print_packages, print_plan, print_wrong,
-};
+use crate::printing::{DecidedLines, PlanLines};
 use crate::reading::{Block, Typed};
+use crate::undecided::Undecided;
 use categories::plan::Plan;
 use comparison::comparing::compare;
 use comparison::premises::Refused;
 use decision::deciding::decide;
+use decision::outcome::{Decision, Fault};
+use findings::consequences::{Consequences, Subject};
 use lots::lot::LotFault;
 use lots::planning::{package_mav, plan_lot};
 use std::alloc::{AllocError, Global};
+
+fn print_undecided(rt: &impl Print, why: Undecided) -> anyhow::Result<()> {
+    Ok(println!(rt; "no decision: {why}")?)
+}
 
 // The MAV of each package of the sample; none where a label is out of range, or the labels are not one for each package of a random
 // lot and none elsewhere.
@@ -18,111 +23,124 @@ fn mavs_of(
     labels: &[u32],
     sample: u32,
 ) -> Result<Option<Vec<(u64, u16)>>, AllocError> {
-    let mut mavs = Vec::new(heap);
-    let count = if typed.lot.label.is_none() {
+    let lot = typed.lot;
+    let labeled = if lot.label.is_none() {
         sample as usize
     } else {
         0
     };
-    if labels.len() != count {
+    if labels.len() != labeled {
         return Ok(None);
     }
-    for i in 0..sample as usize {
-        let label = match typed.lot.label {
-            Some(label) => label,
-            None => match labels.get(i) {
-                Some(own) => *own,
-                None => return Ok(None),
-            },
-        };
-        let Some(mav) = package_mav(&typed.kind, typed.lot.division, label) else {
-            return Ok(None);
-        };
-        mavs.push(mav)?;
-    }
-    Ok(Some(mavs))
+    (0..sample as usize)
+        .map(|i| {
+            let label = lot.label.or(labels.get(i).copied())?;
+            package_mav(&typed.kind, lot.division, label)
+        })
+        .collect(heap)
 }
 
-fn work_one(
-    rt: &HostRuntime,
+// The sample that a plan draws of a lot: the MAV of each package, and how many base units a division has.
+#[derive(Clone, Copy)]
+struct Sample<'a> {
+    mavs: &'a [(u64, u16)],
+    division: u32,
+    plan: Plan,
+}
+
+impl<'a> Sample<'a> {
+    fn print(&self, rt: &impl Print, errors: &[i32], decision: Decision) -> anyhow::Result<()> {
+        let lines = DecidedLines {
+            errors,
+            mavs: self.mavs,
+            division: self.division,
+            decision,
+        };
+        Ok(println!(rt; "{lines}")?)
+    }
+
+    fn refuse(&self, rt: &impl Print, fault: Fault) -> anyhow::Result<()> {
+        print_undecided(rt, Undecided::Sample(fault, self.plan.sample))
+    }
+
+    fn decide(&self, rt: &impl Print, errors: &[i32]) -> anyhow::Result<()> {
+        match decide(errors, self.mavs, self.division, self.plan.rule) {
+            Ok(decision) => self.print(rt, errors, decision),
+            Err(fault) => self.refuse(rt, fault),
+        }
+    }
+
+    fn compare(&self, rt: &impl Print, first: &[i32], second: &[i32]) -> anyhow::Result<()> {
+        match compare(first, second, self.mavs, self.division, self.plan.rule) {
+            Ok(comparison) => {
+                println!(rt; "first list")?;
+                self.print(rt, first, comparison.first)?;
+                println!(rt; "second list")?;
+                self.print(rt, second, comparison.second)?;
+                let said = Consequences {
+                    subject: Subject::Lists,
+                    premises: comparison.premises,
+                };
+                Ok(println!(rt; "{said}")?)
+            }
+            Err(Refused::First(fault)) => self.refuse(rt, fault),
+            Err(Refused::Second(fault)) => {
+                println!(rt; "second list")?;
+                self.refuse(rt, fault)
+            }
+        }
+    }
+}
+
+fn work_lot(
+    rt: &(impl Print + AllocGlobal),
     block: &Block,
     typed: Typed,
     plan: Plan,
-    mavs: &[(u64, u16)],
 ) -> anyhow::Result<()> {
-    let errors = block.first.as_slice();
-    match decide(errors, mavs, typed.lot.division, plan.rule) {
-        Ok(decision) => {
-            print_packages(rt, errors, mavs, typed.lot.division)?;
-            print_decision(rt, decision)
-        }
-        Err(fault) => print_fault(rt, fault, plan.sample),
-    }
-}
-
-fn work_two(
-    rt: &HostRuntime,
-    block: &Block,
-    typed: Typed,
-    plan: Plan,
-    mavs: &[(u64, u16)],
-) -> anyhow::Result<()> {
-    let first = block.first.as_slice();
-    let second = block.second.as_slice();
-    let division = typed.lot.division;
-    match compare(first, second, mavs, division, plan.rule) {
-        Ok(comparison) => {
-            println!(rt; "first list")?;
-            print_packages(rt, first, mavs, division)?;
-            print_decision(rt, comparison.first)?;
-            println!(rt; "second list")?;
-            print_packages(rt, second, mavs, division)?;
-            print_decision(rt, comparison.second)?;
-            print_comparison(rt, comparison)
-        }
-        Err(Refused::First(fault)) => print_fault(rt, fault, plan.sample),
-        Err(Refused::Second(fault)) => {
-            println!(rt; "second list")?;
-            print_fault(rt, fault, plan.sample)
-        }
-    }
-}
-
-fn work_lot(rt: &HostRuntime, block: &Block, typed: Typed, plan: Plan) -> anyhow::Result<()> {
-    print_plan(rt, typed.line, plan)?;
-    let Some(mavs) = mavs_of(rt.alloc(), typed, block.labels.as_slice(), plan.sample)? else {
-        println!(rt;
-            "no decision: a random lot has a label from 1 to 999999 for each package of the sample, and only a random lot has"
-        )?;
-        return Ok(());
+    let lines = PlanLines {
+        line: typed.line,
+        plan,
     };
-    match block.lists {
-        0 => println!(rt; "no decision: the lot has no list of errors")?,
-        1 => work_one(rt, block, typed, plan, mavs.as_slice())?,
-        _ => work_two(rt, block, typed, plan, mavs.as_slice())?,
+    println!(rt; "{lines}")?;
+    let Some(mavs) = mavs_of(rt.alloc(), typed, block.labels.as_slice(), plan.sample)? else {
+        return print_undecided(rt, Undecided::Labels);
+    };
+    let sample = Sample {
+        mavs: mavs.as_slice(),
+        division: typed.lot.division,
+        plan,
+    };
+    match (&block.first, &block.second) {
+        (None, _) => print_undecided(rt, Undecided::NoErrors),
+        (Some(errors), None) => sample.decide(rt, errors.as_slice()),
+        (Some(first), Some(second)) => sample.compare(rt, first.as_slice(), second.as_slice()),
     }
-    Ok(())
+}
+
+// The lot of a block and its plan; none where the block is empty.
+fn planned(block: &Block) -> Result<Option<(Typed, Plan)>, Undecided> {
+    if let Some((line, wrong)) = block.wrong {
+        return Err(Undecided::Line(line, wrong));
+    }
+    let Some(typed) = block.typed else {
+        if block.first.is_some() || !block.labels.is_empty() {
+            return Err(Undecided::NoLot);
+        }
+        return Ok(None);
+    };
+    match plan_lot(&typed.category, &typed.kind, typed.lot) {
+        Ok(plan) => Ok(Some((typed, plan))),
+        Err(LotFault::OutOfRange) => Err(Undecided::OutOfRange(typed.line)),
+        Err(LotFault::NotTaken) => Err(Undecided::NotTaken(typed.line)),
+    }
 }
 
 // Decides the lot of a block, or says why it is not decided.
-pub(crate) fn work(rt: &HostRuntime, block: &Block) -> anyhow::Result<()> {
-    if let Some((line, wrong)) = block.wrong {
-        return print_wrong(rt, line, wrong);
-    }
-    let Some(typed) = block.typed else {
-        if block.lists > 0 || !block.labels.is_empty() {
-            println!(rt; "no decision: the first line of a lot is missing")?;
-        }
-        return Ok(());
-    };
-    let line = typed.line;
-    match plan_lot(&typed.category, &typed.kind, typed.lot) {
-        Ok(plan) => work_lot(rt, block, typed, plan),
-        Err(LotFault::OutOfRange) => Ok(println!(rt;
-            "no decision: line {line}: lot size, division or label is out of range"
-        )?),
-        Err(LotFault::NotTaken) => Ok(println!(rt;
-            "no decision: line {line}: the category does not take this lot"
-        )?),
+pub(crate) fn work(rt: &(impl Print + AllocGlobal), block: &Block) -> anyhow::Result<()> {
+    match planned(block) {
+        Ok(None) => Ok(()),
+        Ok(Some((typed, plan))) => work_lot(rt, block, typed, plan),
+        Err(why) => print_undecided(rt, why),
     }
 }

@@ -7,6 +7,8 @@ use console::transcribing::transcribe;
 use kinds::handbook::HandbookKind;
 use lots::lot::Lot;
 use packages::list::PackageList;
+use packages::package::Package;
+use packages::reading::Reading;
 use packages::records::Random;
 use sheet::call::Call;
 use std::process::Abort;
@@ -16,15 +18,9 @@ use writing::refusing::write_refusal;
 use writing::reporting::write_open;
 use writing::unwritten::Unwritten;
 
-const EMPTY: Random = Random {
-    gross: None,
-    label: None,
-    tare: None,
-};
-
 // The console prints these bytes of a text.
 fn prints(rt: &(impl Abort + AllocGlobal), text: &[u8], expected: &[u8]) -> Result<(), Fail> {
-    let mut places = [EMPTY; 48];
+    let mut places = [Random::holding(Reading::Empty); 48];
     let mut list = PackageList::new(&mut places);
     let said = transcribe(rt.alloc(), text, &mut list)?;
     assert_eq!(rt; said.as_slice(), expected);
@@ -44,19 +40,11 @@ fn unread(rt: &impl Abort, text: &[u8], column: usize, number: u32) -> Result<()
 }
 
 fn is_refused(answer: Result<usize, Unwritten>, letter: char, number: u32) -> bool {
-    match answer {
-        Ok(_) => false,
-        Err(why) => why.letter() == letter && why.number() == number,
-    }
+    answer.is_err_and(|why| why.letter() == letter && why.number() == number)
 }
 
 fn all_sevens(bytes: &[u8]) -> bool {
-    for byte in bytes {
-        if *byte != 7 {
-            return false;
-        }
-    }
-    true
+    bytes.iter().all(|byte| *byte == 7)
 }
 
 // A line put twice: with too few bytes for what it prints, which is refused, and with enough. Answers how many it prints then.
@@ -227,10 +215,9 @@ fn a_closed_sheet_takes_no_command(rt: HostRuntime) -> Result<(), Fail> {
 
 #[test]
 fn a_text_may_have_65536_bytes(rt: HostRuntime) -> Result<(), Fail> {
-    let mut text = Vec::new(rt.alloc());
-    for i in 0..65_536 {
-        text.push(if i % 64 == 63 { b'\n' } else { b' ' })?;
-    }
+    let mut text = (0..65_536)
+        .map(|i| if i % 64 == 63 { b'\n' } else { b' ' })
+        .collect::<Vec<u8>>(rt.alloc())?;
     prints(&rt, text.as_slice(), b"open\n")?;
     text.push(b' ')?;
     prints(&rt, text.as_slice(), b"1 1 T 1\n")?;
@@ -246,7 +233,7 @@ fn a_text_may_have_65536_bytes(rt: HostRuntime) -> Result<(), Fail> {
 
 #[test]
 fn a_short_output_changes_nothing(rt: HostRuntime) {
-    let mut places = [EMPTY; 1];
+    let mut places = [Random::holding(Reading::Empty); 1];
     let mut list = PackageList::new(&mut places);
     let mut few = [7; 255];
     let mut out = [7; 256];
@@ -263,8 +250,7 @@ fn a_short_output_changes_nothing(rt: HostRuntime) {
     let (session, closed) = put_twice(session, &mut list, b"end", &mut few, &mut out);
     let refused = match finish(session, &mut few) {
         Ok(_) => false,
-        Err(back) => {
-            let (session, why) = back;
+        Err((session, why)) => {
             let_go(session);
             is_refused(Err(why), 'S', 23)
         }

@@ -1,6 +1,7 @@
 use categories::category::Category;
 use categories::handbook::HandbookCategory;
 use decision::outcome::Verdict;
+use findings::closed::{Findings, HandbookStart};
 use history::contest::start_and_run;
 use history::ending::{Ending, Start};
 use history::entry::Entry;
@@ -15,19 +16,17 @@ use sheet::call::Call;
 use sheet::record::Record;
 use sheet::refusal::Refusal;
 use sheet::sheet::Sheet;
+use std::array;
 use std::process::Abort;
 use std::test::Fail;
-
-type Begin = Start<HandbookCategory, HandbookKind>;
 
 const SETTLE: Entry = Entry::Call(Call::Settle);
 
 const REOPEN: Entry = Entry::Call(Call::Reopen);
 
-const EMPTY: Standard = Standard {
-    gross: None,
-    tare: None,
-};
+fn empty<P: Package, const N: usize>() -> [P; N] {
+    [P::holding(Reading::Empty); N]
+}
 
 fn weigh(place: u32, gross: u32) -> Entry {
     Entry::Call(Call::Weigh {
@@ -59,7 +58,7 @@ fn begin(
     size: u32,
     division: u32,
     label: Option<u32>,
-) -> Begin {
+) -> HandbookStart {
     Start {
         category,
         kind,
@@ -73,47 +72,12 @@ fn begin(
 }
 
 // A lot of so many packages by weight, each labeled 500.
-fn of_500(size: u32) -> Begin {
+fn of_500(size: u32) -> HandbookStart {
     begin(HandbookCategory::A, HandbookKind::Mus, size, 10, Some(500))
 }
 
-fn is_same(one: Reading, two: Reading) -> bool {
-    match (one, two) {
-        (Reading::Empty, Reading::Empty) => true,
-        (
-            Reading::Weighed { gross, label },
-            Reading::Weighed {
-                gross: other,
-                label: own,
-            },
-        ) => gross == other && label == own,
-        (
-            Reading::Opened { gross, label, tare },
-            Reading::Opened {
-                gross: other,
-                label: own,
-                tare: weight,
-            },
-        ) => gross == other && label == own && tare == weight,
-        _ => false,
-    }
-}
-
 fn readings<P: Package>(list: &PackageList<P>) -> [Reading; 12] {
-    let mut readings = [Reading::Empty; 12];
-    for i in 0..12 {
-        readings[i] = list.at(i);
-    }
-    readings
-}
-
-fn all_same(one: [Reading; 12], two: [Reading; 12]) -> bool {
-    for i in 0..12 {
-        if !is_same(one[i], two[i]) {
-            return false;
-        }
-    }
-    true
+    array::from_fn(|i| list.at(i))
 }
 
 // The first refusal of a run, after how many entries it came, and whether the list reads as before it.
@@ -124,18 +88,17 @@ struct Told {
     kept: bool,
 }
 
-fn first_refusal<P: Package>(start: Begin, records: &mut [P], entries: &[Entry]) -> Option<Told> {
+fn first_refusal<P: Package>(
+    start: HandbookStart,
+    records: &mut [P],
+    entries: &[Entry],
+) -> Option<Told> {
     let mut list = PackageList::new(records);
     let before = readings(&list);
-    let Start {
-        category,
-        kind,
-        lot,
-    } = start;
-    let mut sheet = match Sheet::start(category, kind, lot, &mut list) {
+    let mut sheet = match Sheet::start(start.category, start.kind, start.lot, &mut list) {
         Ok(sheet) => sheet,
         Err(refusal) => {
-            let kept = all_same(before, readings(&list));
+            let kept = before == readings(&list);
             return Some(Told {
                 refusal,
                 after: 0,
@@ -147,12 +110,11 @@ fn first_refusal<P: Package>(start: Begin, records: &mut [P], entries: &[Entry])
         let before = readings(&list);
         match turn(sheet, &mut list, *entry) {
             Ok(_) => return None,
-            Err(pair) => {
-                let (back, answer) = pair;
+            Err((back, answer)) => {
                 sheet = back;
                 if let Some(refusal) = answer {
                     let _ = sheet.discard();
-                    let kept = all_same(before, readings(&list));
+                    let kept = before == readings(&list);
                     return Some(Told {
                         refusal,
                         after,
@@ -169,7 +131,7 @@ fn first_refusal<P: Package>(start: Begin, records: &mut [P], entries: &[Entry])
 // The refusal of the last entry, where those before it are taken and the list reads as before.
 fn last_refusal<P: Package>(
     rt: &impl Abort,
-    start: Begin,
+    start: HandbookStart,
     records: &mut [P],
     entries: &[Entry],
 ) -> Result<Refusal, Fail> {
@@ -181,7 +143,7 @@ fn last_refusal<P: Package>(
 
 // The number of the last refusal on a sheet for three packages.
 fn number_of(rt: &impl Abort, entries: &[Entry]) -> Result<u32, Fail> {
-    let mut records = [EMPTY; 3];
+    let mut records: [Standard; 3] = empty();
     let refusal = last_refusal(rt, of_500(3), &mut records, entries)?;
     assert_eq!(rt; refusal.letter(), 'S');
     Ok(refusal.number())
@@ -204,7 +166,7 @@ fn number_settled(rt: &impl Abort, entry: Entry) -> Result<u32, Fail> {
 
 // The record of a sheet that is closed.
 fn record_of<P: Package>(
-    start: Begin,
+    start: HandbookStart,
     records: &mut [P],
     entries: &[Entry],
 ) -> Result<Record, Fail> {
@@ -221,7 +183,7 @@ fn record_of<P: Package>(
 
 #[test]
 fn a_lot_of_none_is_refused(rt: HostRuntime) -> Result<(), Fail> {
-    let mut records = [EMPTY; 3];
+    let mut records: [Standard; 3] = empty();
     let refusal = last_refusal(&rt, of_500(0), &mut records, &[])?;
     assert_eq!(rt; refusal.number(), 8);
     assert_eq!(rt; refusal.letter(), 'P');
@@ -230,7 +192,7 @@ fn a_lot_of_none_is_refused(rt: HostRuntime) -> Result<(), Fail> {
 
 #[test]
 fn a_count_in_a_plant_is_refused(rt: HostRuntime) -> Result<(), Fail> {
-    let mut records = [EMPTY; 12];
+    let mut records: [Standard; 12] = empty();
     let start = begin(HandbookCategory::B, HandbookKind::Cnt, 10, 1, Some(60));
     let refusal = last_refusal(&rt, start, &mut records, &[])?;
     assert_eq!(rt; refusal.number(), 9);
@@ -314,7 +276,7 @@ fn settling_before_opening_is_refused(rt: HostRuntime) -> Result<(), Fail> {
 
 #[test]
 fn a_tare_of_too_few_is_refused(rt: HostRuntime) -> Result<(), Fail> {
-    let mut records = [EMPTY; 12];
+    let mut records: [Standard; 12] = empty();
     let entries = [
         weigh(1, 520),
         weigh(2, 521),
@@ -358,7 +320,7 @@ fn an_error_out_of_range_is_refused(rt: HostRuntime) -> Result<(), Fail> {
 
 #[test]
 fn three_packages_are_within(rt: HostRuntime) -> Result<(), Fail> {
-    let mut records = [EMPTY; 3];
+    let mut records: [Standard; 3] = empty();
     let entries = [
         weigh(1, 520),
         weigh(2, 517),
@@ -380,18 +342,38 @@ fn three_packages_are_within(rt: HostRuntime) -> Result<(), Fail> {
     assert_eq!(rt; decision.figures.unreasonable, 0);
     assert_eq!(rt; decision.deviation, 1_527);
     assert_eq!(rt; decision.limit, 3_793);
-    assert!(rt; matches!(decision.verdict, Verdict::Within));
+    assert_eq!(rt; decision.verdict, Verdict::Within);
+    Ok(())
+}
+
+#[test]
+fn a_closed_sheet_is_found(rt: HostRuntime) -> Result<(), Fail> {
+    let mut records: [Standard; 3] = empty();
+    let mut list = PackageList::new(&mut records);
+    let entries = [
+        weigh(1, 520),
+        weigh(2, 517),
+        open(1, 20),
+        open(2, 21),
+        SETTLE,
+        weigh(3, 519),
+        Entry::Close,
+    ];
+    let ending = start_and_run(of_500(3), &mut list, &entries);
+    let found = Findings::of(rt.alloc(), of_500(3), ending, &list)?.ok_or("nothing is found")?;
+    assert_eq!(rt; found.labels.as_slice(), [500, 500, 500].as_slice());
+    assert_eq!(rt; found.errors.as_slice(), [0, -3, -1].as_slice());
+    assert_eq!(rt; found.mavs.as_slice(), [(280, 1); 3].as_slice());
+    assert_eq!(rt;
+        found.to_string(rt.alloc())?.as_str(),
+        "sample 3, tare 2 20\ntotal -4, short 2, unreasonable 0, counted 0\ndeviation 1527, limit 3793\nverdict within: passes\nerrors 0 -3 -1"
+    );
     Ok(())
 }
 
 #[test]
 fn a_random_lot_is_short_on_average(rt: HostRuntime) -> Result<(), Fail> {
-    let empty = Random {
-        gross: None,
-        label: None,
-        tare: None,
-    };
-    let mut records = [empty; 12];
+    let mut records: [Random; 12] = empty();
     let entries = [
         weigh_labeled(1, 1_852, 1_850),
         weigh_labeled(2, 1_223, 1_210),
@@ -419,13 +401,13 @@ fn a_random_lot_is_short_on_average(rt: HostRuntime) -> Result<(), Fail> {
     assert_eq!(rt; decision.figures.short, 12);
     assert_eq!(rt; decision.deviation, 6_721);
     assert_eq!(rt; decision.limit, 4_267);
-    assert!(rt; matches!(decision.verdict, Verdict::Average));
+    assert_eq!(rt; decision.verdict, Verdict::Average);
     Ok(())
 }
 
 #[test]
 fn a_volume_has_no_tare(rt: HostRuntime) -> Result<(), Fail> {
-    let mut records = [EMPTY; 2];
+    let mut records: [Standard; 2] = empty();
     let entries = [weigh(1, 1_000), weigh(2, 990), SETTLE, Entry::Close];
     let start = begin(HandbookCategory::A, HandbookKind::Lsi, 2, 1, Some(1_000));
     let record = record_of(start, &mut records, &entries)?;
@@ -437,7 +419,7 @@ fn a_volume_has_no_tare(rt: HostRuntime) -> Result<(), Fail> {
 
 #[test]
 fn a_low_count_is_decided_by_the_plan(rt: HostRuntime) -> Result<(), Fail> {
-    let mut records = [EMPTY; 12];
+    let mut records: [Standard; 12] = empty();
     let entries = [
         weigh(1, 50),
         weigh(2, 50),
@@ -460,13 +442,13 @@ fn a_low_count_is_decided_by_the_plan(rt: HostRuntime) -> Result<(), Fail> {
     assert_eq!(rt; decision.figures.short, 1);
     assert_eq!(rt; decision.figures.unreasonable, 1);
     assert_eq!(rt; decision.counted, 1);
-    assert!(rt; matches!(decision.verdict, Verdict::Plan));
+    assert_eq!(rt; decision.verdict, Verdict::Plan);
     Ok(())
 }
 
 #[test]
 fn twelve_packages_are_over(rt: HostRuntime) -> Result<(), Fail> {
-    let mut records = [EMPTY; 12];
+    let mut records: [Standard; 12] = empty();
     let entries = [
         weigh(1, 1_052),
         weigh(2, 1_026),
@@ -491,6 +473,6 @@ fn twelve_packages_are_over(rt: HostRuntime) -> Result<(), Fail> {
     assert_eq!(rt; record.average_tare(), 14);
     let decision = record.decision();
     assert_eq!(rt; decision.figures.total, 75);
-    assert!(rt; matches!(decision.verdict, Verdict::Over));
+    assert_eq!(rt; decision.verdict, Verdict::Over);
     Ok(())
 }
