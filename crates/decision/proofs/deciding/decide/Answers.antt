@@ -14,7 +14,7 @@ use Rattle.decision.proofs.deciding.decide.Goals as goal
 pub measure-figures-requires : goal.measure-figures-requires
 measure-figures-requires c =
     let h = accepted (length c.args.mavs.now) c.args.rule c.args.errors.now (sym c.in_ok-ask.ensures) in
-    record { errors_len_bound = (h.few, h.beside); small = λ k l. omega (arith, h.inside k l) }
+    record { few = h.few; small = λ k l. omega (arith, h.inside k l) }
 
 module _ (division : ℕ) (mavs : List (ℕ × ℕ)) (rule : Rule) (es : List ℤ) where
   -- the figures of an accepted sample
