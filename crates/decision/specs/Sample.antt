@@ -1,5 +1,5 @@
 -- The figures of a sample of package errors. An error is negative where the package is short.
-use Rattle.std.specs.Prelude.{ℕ, ◌+◌, ◌*◌, ◌<◌, ◌≤◌, Bool, List, [], ◌∷◌, length, ℤ, pos, ◌+ℤ◌, ◌-ℤ◌, ◌*ℤ◌, neg_ℤ, int_lt, slice_index_or, unsigned_abs, count_by}
+use Rattle.std.specs.Prelude.{ℕ, ◌*◌, ◌<◌, ◌≤◌, Bool, List, [], ◌∷◌, length, ℤ, pos, ◌+ℤ◌, ◌-ℤ◌, ◌*ℤ◌, neg_ℤ, int_lt, slice_index_or, unsigned_abs, count_by}
 use Rattle.std.specs.List.{zip}
 use Rattle.decision.specs.declared.outcome.Figures.{Figures}
 

@@ -17,15 +17,6 @@ pub fn is_unreasonable(error: i32, division: u32, mav: (u64, u16)) -> bool
     -i128::from(error) * i128::from(division) * i128::from(denominator) > i128::from(numerator)
 }
 
-fn square(error: i32) -> i64
-    requires { unsigned_abs error ≤ 9000 }
-    ensures is { result ≡ error *ℤ error }
-    ensures bounds { (pos 0 ≤ℤ result) × (unsigned_abs result ≤ 81000000) }
-{
-    let e = i64::from(error);
-    e * e
-}
-
 fn count_short(errors: &[i32]) -> usize
     ensures { result ≡ short errors.now }
 {
@@ -52,8 +43,9 @@ pub(crate) fn measure(errors: &[i32], mavs: &[(u64, u16)], division: u32) -> Fig
     let mut total: i64 = 0;
     let mut squares: i64 = 0;
     for error in errors {
-        total += i64::from(*error);
-        squares += square(*error);
+        let e = i64::from(*error);
+        total += e;
+        squares += e * e;
     }
     Figures {
         sample: errors.len() as u32,

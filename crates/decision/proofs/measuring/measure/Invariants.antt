@@ -1,4 +1,4 @@
-use Rattle.std.proofs.Common.{◌≡◌, ℕ, ◌*◌, ◌≤◌, take, nat_abs}
+use Rattle.std.proofs.Common.{◌≡◌, ◌*◌, ◌≤◌, take, nat_abs}
 use Rattle.decision.specs.Sample.{total, squares}
 use Rattle.decision.proofs.measuring.measure.Given as goal
 
