@@ -22,14 +22,23 @@ abbrev pub Lower : List ℤ → List ℤ → Option ℕ → Type 0
 Lower es ds None = (k : ℕ) → k < length es → at es k ≤ℤ at ds k
 Lower es ds (Some place) = (place < length es) × (at ds place <ℤ at es place) × ((k : ℕ) → k < place → at es k ≤ℤ at ds k)
 
+-- by its errors in both lists, one package stood lower than another, and rose by more
+abbrev pub Cross : ℤ × ℤ → ℤ × ℤ → Type 0
+Cross low high = (low.0 <ℤ high.0) × ((high.1 -ℤ high.0) <ℤ (low.1 -ℤ low.0))
+
 -- the error at j stood lower than the one at k, and rose by more
 abbrev pub Crosses : List ℤ → List ℤ → ℕ → ℕ → Type 0
-Crosses es ds j k = (at es j <ℤ at es k) × (rise es ds k <ℤ rise es ds j)
+Crosses es ds j k = Cross (at es j, at ds j) (at es k, at ds k)
+
+-- the first place that crosses with a package, or that none does
+abbrev pub CrossedBy : List ℤ → List ℤ → ℤ × ℤ → Option ℕ → Type 0
+CrossedBy es ds low None = (k : ℕ) → k < length es → Cross low (at es k, at ds k) → ⊥
+CrossedBy es ds low (Some place) =
+    (place < length es) × Cross low (at es place, at ds place) × ((k : ℕ) → k < place → Cross low (at es k, at ds k) → ⊥)
 
 -- the first place that crosses with j, or that none does
 abbrev pub CrossedWith : List ℤ → List ℤ → ℕ → Option ℕ → Type 0
-CrossedWith es ds j None = (k : ℕ) → k < length es → Crosses es ds j k → ⊥
-CrossedWith es ds j (Some place) = (place < length es) × Crosses es ds j place × ((k : ℕ) → k < place → Crosses es ds j k → ⊥)
+CrossedWith es ds j o = CrossedBy es ds (at es j, at ds j) o
 
 -- the first two places that cross, or that none do
 abbrev pub Crossed : List ℤ → List ℤ → Option (ℕ × ℕ) → Type 0
