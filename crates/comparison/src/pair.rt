@@ -1,5 +1,5 @@
 ghost use Rattle.std.specs.Prelude.{◌≡◌, ◌<◌, ◌↔◌, IsTrue, length, ◌-ℤ◌};
-ghost use Rattle.comparison.specs.Rises.{Lower, Cross, CrossedBy, Crossed};
+ghost use Rattle.comparison.specs.Rises.{Lower, Crosses, CrossedBy, Crossed};
 
 // The errors of a package in the first list and in the second.
 type Errors = (i32, i32);
@@ -13,7 +13,7 @@ fn rise(errors: Errors) -> i64
 
 // One package stood lower than another, and rose by more.
 fn crosses(low: Errors, high: Errors) -> bool
-    ensures { IsTrue result ↔ Cross low high }
+    ensures { IsTrue result ↔ Crosses low high }
 {
     low.0 < high.0 && rise(high) < rise(low)
 }

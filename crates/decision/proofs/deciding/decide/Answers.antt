@@ -11,10 +11,8 @@ use Rattle.decision.proofs.Ranges.{accepted}
 use Rattle.decision.proofs.Spread.{spread_positive}
 use Rattle.decision.proofs.deciding.decide.Goals as goal
 
-pub measure-figures-requires : goal.measure-figures-requires
-measure-figures-requires c =
-    let h = accepted (length c.args.mavs.now) c.args.rule c.args.errors.now (sym c.in_ok-ask.ensures) in
-    record { few = h.few; small = λ k l. omega (arith, h.inside k l) }
+pub measure-figures-requires-clause-small : goal.measure-figures-requires-clause-small
+measure-figures-requires-clause-small c k l = omega (arith, (accepted (length c.args.mavs.now) c.args.rule c.args.errors.now (sym c.in_ok-ask.ensures)).inside k l)
 
 module _ (division : ℕ) (mavs : List (ℕ × ℕ)) (rule : Rule) (es : List ℤ) where
   -- the figures of an accepted sample

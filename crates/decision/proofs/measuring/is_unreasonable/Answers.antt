@@ -3,7 +3,7 @@ use lib.IntN.{+ℤ_idl}
 use mir.Syntax.{w128}
 use borrow.Author.Differences.{ints}
 use Rattle.std.proofs.lemmas.Int.{to_z-of_z}
-use Rattle.decision.proofs.Bounds.{mul_size, fits128}
+use Rattle.decision.proofs.Bounds.{mul_size, fits}
 use Rattle.decision.proofs.measuring.is_unreasonable.Goals as goal
 
 -- each step of -e * d * b fits
@@ -18,9 +18,9 @@ fit e d b h k l =
     let s = mul_size (2 ^ 31) (2 ^ 32) (pos 0 -ℤ e) (pos d) n (omega arith) in
     let c = mul_size (2 ^ 31 * 2 ^ 32) (2 ^ 16) ((pos 0 -ℤ e) *ℤ pos d) (pos b) s (omega arith) in
     record {
-      negated = fits128 (2 ^ 31) _ n (lit< tt);
-      scaled = fits128 (2 ^ 31 * 2 ^ 32) _ s (lit< tt);
-      crossed = fits128 (2 ^ 31 * 2 ^ 32 * 2 ^ 16) _ c (lit< tt);
+      negated = fits w128 (2 ^ 31) _ n (lit< tt);
+      scaled = fits w128 (2 ^ 31 * 2 ^ 32) _ s (lit< tt);
+      crossed = fits w128 (2 ^ 31 * 2 ^ 32 * 2 ^ 16) _ c (lit< tt);
     }
 
 pub overflow_mul-result-2 : goal.overflow_mul-result-2

@@ -9,7 +9,7 @@ use Rattle.std.proofs.lemmas.Iterator.Consumers.{YieldsList-from_enumerate, Yiel
 use Rattle.std.proofs.lemmas.List.{get_or_read, length_push}
 use Rattle.std.proofs.lemmas.List.FromFn.{length-enumerate_from, get_or-enumerate_from}
 use Rattle.std.proofs.lemmas.Slice.Zip.{length-zip, get_or-zip}
-use Rattle.comparison.specs.Rises.{at, Cross}
+use Rattle.comparison.specs.Rises.{at, Crosses}
 use Rattle.comparison.proofs.pair.Pair.first_crossed.Goals as goal
 
 -- the pair at a place has the errors there
@@ -26,7 +26,7 @@ at_place es ds n i a b l e =
     cc
 
 pub loop-j-preserved : goal.loop-j-preserved
-loop-j-preserved c j k jl kl x =
+loop-j-preserved c j jl k kl x =
     let es = c.args.self.now.first.now in
     let ds = c.args.self.now.second.now in
     let n = length c.loop-j.yielded in
@@ -38,6 +38,6 @@ loop-j-preserved c j k jl kl x =
     let f : SFits w32 c.in-Some.first.now = search rules in
     let g : SFits w32 c.in-Some.second.now = search rules in
     let more = length_push c.loop-j.yielded (c.in-Some.j, (c.in-Some.first, c.in-Some.second)) in
-    ⊎_elim (λ l. c.loop-j.invariant j k l kl x)
-    (λ l. let s : j ≡ n = omega (arith, jl, more, l) in c.in_default.ensures k kl (simp to_z-of_z (subst (λ p. Cross p (at es k, at ds k)) (sym e) (subst (λ i. Cross (at es i, at ds i) (at es k, at ds k)) s x))))
+    ⊎_elim (λ l. c.loop-j.invariant j l k kl x)
+    (λ l. let s : j ≡ n = omega (arith, jl, more, l) in c.in_default.ensures k kl (simp to_z-of_z (subst (λ p. Crosses p (at es k, at ds k)) (sym e) (subst (λ i. Crosses (at es i, at ds i) (at es k, at ds k)) s x))))
     (cases_lt j n)
