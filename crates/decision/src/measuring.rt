@@ -47,11 +47,13 @@ pub(crate) fn measure(errors: &[i32], mavs: &[(u64, u16)], division: u32) -> Fig
         total += e;
         squares += e * e;
     }
+    let short = count_short(errors) as u32;
+    let unreasonable = count_unreasonable(errors, mavs, division) as u32;
     Figures {
         sample: errors.len() as u32,
         total,
         squares,
-        short: count_short(errors) as u32,
-        unreasonable: count_unreasonable(errors, mavs, division) as u32,
+        short,
+        unreasonable,
     }
 }

@@ -34,7 +34,7 @@ loop-error-preserved c =
       squares_size = omega (arith, ints);
     }))
 
-pub overflow_cast-result-3 : goal.overflow_cast-result-3
-overflow_cast-result-3 c = record {
+pub overflow_cast-unreasonable : goal.overflow_cast-unreasonable
+overflow_cast-unreasonable c = record {
   fits = omega (arith, unreasonable_short c.args.division c.args.mavs.now c.args.errors.now, short_few c.args.errors.now);
 }
