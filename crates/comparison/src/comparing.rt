@@ -18,13 +18,15 @@ pub fn compare(
     let one = decide(first, mavs, division, rule).map_err(Refused::First)?;
     let two = decide(second, mavs, division, rule).map_err(Refused::Second)?;
     let pair = Pair { first, second };
+    let lower = pair.first_lower();
+    let crossed = pair.first_crossed();
     let average = one.figures.total >= 0;
     Ok(Comparison {
         first: one,
         second: two,
         premises: Premises {
-            lower: pair.first_lower(),
-            crossed: pair.first_crossed(),
+            lower,
+            crossed,
             average,
         },
     })

@@ -24,6 +24,6 @@ returns c =
       accepted = (a.0, b.0);
       first = a.1;
       second = b.1;
-      stated = stated c.args.first.now c.args.second.now _ (as_long c.args.mavs.now c.args.rule c.args.first.now c.args.second.now a.0 b.0) c.first_lower.ensures c.first_crossed.ensures (ap (le_z (pos 0)) sum);
+      stated = stated c.args.first.now c.args.second.now _ (as_long c.args.mavs.now c.args.rule c.args.first.now c.args.second.now a.0 b.0) c.first_lower-lower.ensures c.first_crossed-crossed.ensures (ap (le_z (pos 0)) sum);
       rule_for_two = rule_for_two c.args.first.now c.args.second.now c.args.division c.args.mavs.now c.args.rule _ _ a.1 b.1;
     }
