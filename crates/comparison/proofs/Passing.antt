@@ -1,8 +1,10 @@
 -- The rule for two lists.
-use Rattle.std.proofs.Common.{◌≡◌, ℕ, suc, ◌+◌, ◌-◌, ◌*◌, ◌<◌, ◌≤◌, Bool, true, false, cond, ltb, List, [], ◌∷◌, length, replicate, ℤ, pos, negsuc, ◌*ℤ◌, neg_ℤ, ◌≤ℤ◌, sym, refl, ap, ◌∙◌, subst, suc-le-suc, mul-le-mul, arith}
+use Rattle.std.proofs.Common.{◌≡◌, ℕ, suc, ◌+◌, ◌-◌, ◌*◌, ◌<◌, ◌≤◌, Bool, true, false, cond, count_by, ltb, List, [], ◌∷◌, length, replicate, ℤ, pos, negsuc, ◌*ℤ◌, neg_ℤ, ◌≤ℤ◌, sym, refl, ap, ◌∙◌, subst, suc-le-suc, mul-le-mul, arith}
 use lib.Signed.{lt_z, le_z}
 use borrow.Author.Differences.{ints, up, down}
+use Rattle.std.specs.List.{zip}
 use Rattle.std.proofs.lemmas.Bool.{le-ltb, ltb-false}
+use Rattle.std.proofs.lemmas.List.Sums.{sum_by-cons}
 use Rattle.decision.proofs.Ring.{v, n, neg, mul, same, most}
 use Rattle.decision.proofs.Spread.{add_le, spread_pairs}
 use Rattle.decision.specs.declared.rule.Counted.{Counted}
@@ -21,6 +23,10 @@ rest e d es ds h = (omega (arith, h.0), λ k l. h.1 (suc k) (suc-le-suc l))
 -- a test that a higher error passes only where the lower one does
 one_le : (s t : Bool) → (t ≡ true → s ≡ true) → cond t 1 0 ≤ cond s 1 0
 one_le s t h = grind arith
+
+-- so no more of the higher errors pass
+fewer : {A : Type 0} (p q : A → Bool) (x y : A) (xs ys : List A) → (q y ≡ true → p x ≡ true) → count_by q ys ≤ count_by p xs → count_by q (y ∷ ys) ≤ count_by p (x ∷ xs)
+fewer p q x y xs ys h k = omega (arith, sum_by-cons (λ z. cond (p z) 1 0) x xs, sum_by-cons (λ z. cond (q z) 1 0) y ys, one_le (p x) (q y) h)
 
 short_falls : (a b : ℤ) → a ≤ℤ b → is_short b ≡ true → is_short a ≡ true
 short_falls a b h e = grind (arith, ints)
@@ -45,7 +51,7 @@ pub fewer_short : (es ds : List ℤ) → NoneLower es ds → short ds ≤ short 
 fewer_short [] [] h = omega arith
 fewer_short [] (d ∷ ds) h = absurd (omega (arith, h.0))
 fewer_short (e ∷ es) [] h = absurd (omega (arith, h.0))
-fewer_short (e ∷ es) (d ∷ ds) h = omega (arith, one_le (is_short e) (is_short d) (short_falls e d (h.1 0 (omega arith))), fewer_short es ds (rest e d es ds h))
+fewer_short (e ∷ es) (d ∷ ds) h = fewer is_short is_short e d es ds (short_falls e d (h.1 0 (omega arith))) (fewer_short es ds (rest e d es ds h))
 
 pub fewer_unreasonable : (division : ℕ) (mavs : List (ℕ × ℕ)) (es ds : List ℤ) → NoneLower es ds → unreasonable division mavs ds ≤ unreasonable division mavs es
 fewer_unreasonable division [] es ds h = omega arith
@@ -53,11 +59,8 @@ fewer_unreasonable division (mav ∷ mavs) [] [] h = omega arith
 fewer_unreasonable division (mav ∷ mavs) [] (d ∷ ds) h = absurd (omega (arith, h.0))
 fewer_unreasonable division (mav ∷ mavs) (e ∷ es) [] h = absurd (omega (arith, h.0))
 fewer_unreasonable division (mav ∷ mavs) (e ∷ es) (d ∷ ds) h =
-    omega (
-      arith,
-      one_le (is_unreasonable division mav e) (is_unreasonable division mav d) (unreasonable_falls division mav e d (h.1 0 (omega arith))),
-      fewer_unreasonable division mavs es ds (rest e d es ds h),
-    )
+    let above = λ (p : (ℕ × ℕ) × ℤ). is_unreasonable division p.0 p.1 in
+    fewer above above (mav, e) (mav, d) (zip mavs es) (zip mavs ds) (unreasonable_falls division mav e d (h.1 0 (omega arith))) (fewer_unreasonable division mavs es ds (rest e d es ds h))
 
 total_up : (es ds : List ℤ) → NoneLower es ds → total es ≤ℤ total ds
 total_up [] [] h = omega (arith, ints)

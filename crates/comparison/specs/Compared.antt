@@ -1,5 +1,5 @@
 -- What is answered to two lists of package errors for one lot.
-use Rattle.std.specs.Prelude.{◌≡◌, ℕ, ◌≤◌, List, length, ℤ, pos, ◌≤ℤ◌, Some, None, Ok, Err, Decides, Result}
+use Rattle.std.specs.Prelude.{◌≡◌, ℕ, ◌≤◌, List, length, ℤ, pos, ◌≤ℤ◌, Some, None, Ok, Err, IsTrue, ◌↔◌, Result}
 use Rattle.decision.specs.declared.outcome.Decision.{Decision}
 use Rattle.decision.specs.declared.rule.Rule.{Rule}
 use Rattle.decision.specs.Answer.{refusal, Decided}
@@ -15,10 +15,10 @@ use Rattle.comparison.specs.Rises.{NoneLower, OrderKept, Lower, Crossed}
 pub record Stated (es ds : List ℤ) (p : Premises) : Type 0 where
   pub lower : Lower es ds p.lower
   pub crossed : Crossed es ds p.crossed
-  pub average : Decides p.average (pos 0 ≤ℤ total es)
+  pub average : IsTrue p.average ↔ (pos 0 ≤ℤ total es)
   -- in the words of the rule
-  pub none_lower : (p.lower ≡ None → NoneLower es ds) × (NoneLower es ds → p.lower ≡ None)
-  pub order_kept : (p.crossed ≡ None → OrderKept es ds) × (OrderKept es ds → p.crossed ≡ None)
+  pub none_lower : (p.lower ≡ None) ↔ NoneLower es ds
+  pub order_kept : (p.crossed ≡ None) ↔ OrderKept es ds
 
 -- the rule for two lists, of the decisions
 pub record RuleForTwo (es ds : List ℤ) (first second : Decision) : Type 0 where

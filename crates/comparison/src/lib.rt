@@ -2,4 +2,5 @@
 
 pub mod comparing;
 pub mod laws;
+mod pair;
 pub mod premises;

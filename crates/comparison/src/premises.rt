@@ -1,7 +1,7 @@
 use decision::outcome::{Decision, Fault};
 
 // Which premises of the rule for two lists of errors hold, and the first place that breaks one. Places count from 0.
-#[derive(Clone, Copy)]
+#[derive(Clone, Copy, Debug, PartialEq, Eq)]
 pub struct Premises {
     // the first place whose error is lower in the second list
     pub lower: Option<usize>,
@@ -12,7 +12,7 @@ pub struct Premises {
 }
 
 // Two lists of errors for one lot, decided and compared.
-#[derive(Clone, Copy)]
+#[derive(Clone, Copy, Debug, PartialEq, Eq)]
 pub struct Comparison {
     pub first: Decision,
     pub second: Decision,
@@ -20,7 +20,7 @@ pub struct Comparison {
 }
 
 // Which list is not decided, and why.
-#[derive(Clone, Copy)]
+#[derive(Clone, Copy, Debug, PartialEq, Eq)]
 pub enum Refused {
     First(Fault),
     Second(Fault),

@@ -3,6 +3,8 @@ use Rattle.std.proofs.Common.{◌≡◌, ℕ, ◌-◌, ◌*◌, ◌≤◌, Bool,
 use lib.Signed.{lt_z, le_z}
 use borrow.Author.Differences.{ints}
 use Rattle.std.proofs.lemmas.Bool.{ltb-false, le-ltb}
+use Rattle.std.proofs.lemmas.List.Sums.{sum_by-cons, count_by-le-length}
+use Rattle.std.specs.List.{zip}
 use Rattle.decision.specs.declared.outcome.Verdict.TheVariants.{Average}
 use Rattle.decision.specs.declared.rule.Rule.{Rule}
 use Rattle.decision.specs.Sample.{total, is_short, is_unreasonable, short, unreasonable, figures}
@@ -50,19 +52,17 @@ no_shortage a d b = most (mul (mul (neg (n a)) (n d)) (n b)) (n 0) (omega arith)
 not_above : (m : ℕ) (z : ℤ) → z ≤ℤ pos 0 → lt_z (pos m) z ≡ false
 not_above m z h = sym (omega (arith, ints))
 
-at_most_one : (b : Bool) → cond b 1 0 ≤ 1
-at_most_one true = omega arith
-at_most_one false = omega arith
-
 one_le : (d : ℕ) (mav : ℕ × ℕ) (e : ℤ) → cond (is_unreasonable d mav e) 1 0 ≤ cond (is_short e) 1 0
-one_le d mav (pos a) = subst (λ b. cond b 1 0 ≤ cond (is_short (pos a)) 1 0) (sym (not_above mav.0 _ (no_shortage a d mav.1))) (omega arith)
-one_le d mav (negsuc a) = at_most_one (is_unreasonable d mav (negsuc a))
+one_le d mav (pos a) = rw (not_above mav.0 _ (no_shortage a d mav.1)) (omega arith)
+one_le d mav (negsuc a) = grind arith
 
 pub unreasonable_short : (d : ℕ) (mavs : List (ℕ × ℕ)) (es : List ℤ) → unreasonable d mavs es ≤ short es
 unreasonable_short d [] es = omega arith
 unreasonable_short d (mav ∷ mavs) [] = omega arith
-unreasonable_short d (mav ∷ mavs) (e ∷ es) = omega (arith, one_le d mav e, unreasonable_short d mavs es)
+unreasonable_short d (mav ∷ mavs) (e ∷ es) =
+    let a = sum_by-cons (λ (p : (ℕ × ℕ) × ℤ). cond (is_unreasonable d p.0 p.1) 1 0) (mav, e) (zip mavs es) in
+    let b = sum_by-cons (λ (x : ℤ). cond (is_short x) 1 0) e es in
+    omega (arith, one_le d mav e, unreasonable_short d mavs es)
 
 pub short_few : (es : List ℤ) → short es ≤ length es
-short_few [] = omega arith
-short_few (e ∷ es) = omega (arith, at_most_one (is_short e), short_few es)
+short_few es = count_by-le-length is_short es

@@ -1,5 +1,5 @@
 -- What is answered to a sample.
-use Rattle.std.specs.Prelude.{◌≡◌, ℕ, ◌*◌, ◌≤◌, cond, not, ◌&&◌, ◌||◌, List, length, position, ℤ, Some, None, Ok, Err, Option, Result, ◌==◌, nat_lt, unsigned_abs}
+use Rattle.std.specs.Prelude.{◌≡◌, ℕ, ◌*◌, ◌≤◌, if◌then◌else◌, not, ◌&&◌, ◌||◌, List, length, position, ℤ, Some, None, Ok, Err, Option, Result, ◌==◌, nat_lt, unsigned_abs}
 use Rattle.decision.specs.declared.outcome.Decision.{Decision}
 use Rattle.decision.specs.declared.outcome.Fault.{Fault}
 use Rattle.decision.specs.declared.outcome.Fault.TheVariants.{Count, Mavs, Range, Factor, Allowed, Average}
@@ -16,11 +16,15 @@ outside es = position (λ e. nat_lt 8000 (unsigned_abs e)) es
 abbrev pub ranged : Rule → ℕ → Option ℕ → Option Fault
 ranged rule n (Some place) = Some (Range place)
 ranged rule n None =
-    cond (nat_lt 18000 (rule.factor * n)) (Some Factor) (cond (nat_lt n rule.allowed) (Some Allowed) (cond (rule.average && nat_lt n 2) (Some Average) None))
+    if nat_lt 18000 (rule.factor * n) then Some Factor
+    else (if nat_lt n rule.allowed then Some Allowed
+    else (if rule.average && nat_lt n 2 then Some Average else None))
 
 abbrev pub refusal : ℕ → Rule → List ℤ → Option Fault
 refusal mavs rule es =
-    cond (nat_lt (length es) 1 || nat_lt 48 (length es)) (Some Count) (cond (not (mavs == length es)) (Some Mavs) (ranged rule (length es) (outside es)))
+    if nat_lt (length es) 1 || nat_lt 48 (length es) then Some Count
+    else (if not (mavs == length es) then Some Mavs
+    else ranged rule (length es) (outside es))
 
 -- what follows from the figures
 pub record Concluded (rule : Rule) (f : Figures) (d : Decision) : Type 0 where

@@ -1,16 +1,20 @@
 -- The figures of a sample of package errors. An error is negative where the package is short.
-use Rattle.std.specs.Prelude.{ℕ, ◌+◌, ◌*◌, ◌<◌, ◌≤◌, Bool, cond, List, [], ◌∷◌, length, ℤ, pos, ◌+ℤ◌, ◌-ℤ◌, ◌*ℤ◌, neg_ℤ, int_lt, slice_index_or, unsigned_abs}
+use Rattle.std.specs.Prelude.{ℕ, ◌*◌, ◌<◌, ◌≤◌, Bool, List, [], ◌∷◌, length, ℤ, pos, ◌+ℤ◌, ◌-ℤ◌, ◌*ℤ◌, neg_ℤ, int_lt, slice_index_or, unsigned_abs, count_by}
+use Rattle.std.specs.List.{zip}
 use Rattle.decision.specs.declared.outcome.Figures.{Figures}
+
+-- what f gives of each error, added up
+abbrev pub sum_of : (ℤ → ℤ) → List ℤ → ℤ
+sum_of f [] = pos 0
+sum_of f (e ∷ es) = f e +ℤ sum_of f es
 
 -- S, the sum of the errors
 abbrev pub total : List ℤ → ℤ
-total [] = pos 0
-total (e ∷ es) = e +ℤ total es
+total es = sum_of (λ e. e) es
 
 -- Q, the sum of their squares
 abbrev pub squares : List ℤ → ℤ
-squares [] = pos 0
-squares (e ∷ es) = e *ℤ e +ℤ squares es
+squares es = sum_of (λ e. e *ℤ e) es
 
 abbrev pub is_short : ℤ → Bool
 is_short e = int_lt e (pos 0)
@@ -21,14 +25,11 @@ is_unreasonable division mav e = int_lt (pos mav.0) (neg_ℤ e *ℤ pos division
 
 -- H, how many are short
 abbrev pub short : List ℤ → ℕ
-short [] = 0
-short (e ∷ es) = cond (is_short e) 1 0 + short es
+short es = count_by is_short es
 
 -- U, how many are unreasonable, each by the MAV at its own place
 abbrev pub unreasonable : ℕ → List (ℕ × ℕ) → List ℤ → ℕ
-unreasonable division [] es = 0
-unreasonable division (mav ∷ mavs) [] = 0
-unreasonable division (mav ∷ mavs) (e ∷ es) = cond (is_unreasonable division mav e) 1 0 + unreasonable division mavs es
+unreasonable division mavs es = count_by (λ p. is_unreasonable division p.0 p.1) (zip mavs es)
 
 abbrev pub figures : ℕ → List (ℕ × ℕ) → List ℤ → Figures
 figures division mavs es =
@@ -36,8 +37,7 @@ figures division mavs es =
 
 -- the squares of the distances from x, added up
 abbrev pub away : ℤ → List ℤ → ℤ
-away x [] = pos 0
-away x (e ∷ es) = (x -ℤ e) *ℤ (x -ℤ e) +ℤ away x es
+away x es = sum_of (λ e. (x -ℤ e) *ℤ (x -ℤ e)) es
 
 -- the squares of the differences of all pairs of errors, added up: n * (n - 1) times the square of the sample standard deviation
 abbrev pub pairs : List ℤ → ℤ

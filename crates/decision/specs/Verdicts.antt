@@ -1,5 +1,5 @@
 -- The verdict on a sample, from its figures alone.
-use Rattle.std.specs.Prelude.{◌≡◌, ℕ, ◌-◌, ◌*◌, ◌/◌, ◌≤◌, Bool, true, cond, not, List, length, codes, ℤ, pos, ◌-ℤ◌, ◌*ℤ◌, ◌≤ℤ◌, ◌<ℤ◌, int_le, int_lt, nat_lt, unsigned_abs}
+use Rattle.std.specs.Prelude.{◌≡◌, ℕ, ◌-◌, ◌*◌, ◌/◌, ◌≤◌, Bool, true, if◌then◌else◌, MatchBool, ⊤, not, List, length, codes, ℤ, pos, ◌-ℤ◌, ◌*ℤ◌, ◌≤ℤ◌, ◌<ℤ◌, int_le, int_lt, nat_lt, unsigned_abs}
 use Rattle.decision.specs.declared.outcome.Figures.{Figures}
 use Rattle.decision.specs.declared.outcome.Verdict.{Verdict}
 use Rattle.decision.specs.declared.outcome.Verdict.TheVariants.{Mav, Plan, Over, Average, Within}
@@ -34,17 +34,17 @@ falls factor f = int_lt (pos (factor * factor * f.sample) *ℤ spread f) (f.tota
 
 -- the first that fits
 abbrev pub first : Bool → Bool → Bool → Bool → Verdict
-first mav plan over average = cond mav Mav (cond plan Plan (cond over Over (cond average Average Within)))
+first mav plan over average = if mav then Mav else (if plan then Plan else (if over then Over else (if average then Average else Within)))
 
 abbrev pub verdict : Rule → Figures → Verdict
 verdict rule f = first (nat_lt rule.allowed (counted rule f)) (not rule.average) (int_le (pos 0) f.total) (falls rule.factor f)
 
 abbrev pub Passes : Verdict → Type 0
 Passes Mav = ⊥
-Passes Plan = Unit {0}
-Passes Over = Unit {0}
+Passes Plan = ⊤
+Passes Over = ⊤
 Passes Average = ⊥
-Passes Within = Unit {0}
+Passes Within = ⊤
 
 -- as a report says it
 abbrev pub verdict_word : Verdict → List ℕ
@@ -61,7 +61,8 @@ pub record Largest (n x v : ℕ) : Type 0 where
 
 -- the deviation v and the limit l, in thousandths; both 0 where the average does not apply
 abbrev pub Deviates : Rule → Figures → ℕ → ℕ → Type 0
-Deviates rule f v l = cond rule.average (Largest f.sample (1000000 * unsigned_abs (spread f)) v × (l ≡ v * rule.factor / 1000)) ((v ≡ 0) × (l ≡ 0))
+Deviates rule f v l =
+    MatchBool rule.average (Largest f.sample (1000000 * unsigned_abs (spread f)) v × (l ≡ v * rule.factor / 1000)) ((v ≡ 0) × (l ≡ 0))
 
 -- The average shortfall -S / n is above the sample error limit, factor / 1000 times the exact sample standard deviation s. Both
 -- sides are squared and multiplied by 10^6 * n * n * (n - 1), where n * (n - 1) * s * s is the sum of the squares of all differences.

@@ -1,5 +1,5 @@
 ghost use Rattle.std.specs.Prelude.{◌≡◌, ℕ, ◌*◌, ◌<◌, ◌≤◌, length, ℤ, pos, ◌*ℤ◌, ◌≤ℤ◌, unsigned_abs};
-ghost use Rattle.decision.specs.Sample.{is_short, is_unreasonable, figures, Small, Bounded};
+ghost use Rattle.decision.specs.Sample.{is_short, is_unreasonable, short, unreasonable, figures, Small, Bounded};
 
 use crate::outcome::Figures;
 
@@ -17,32 +17,38 @@ pub fn is_unreasonable(error: i32, division: u32, mav: (u64, u16)) -> bool
     -i128::from(error) * i128::from(division) * i128::from(denominator) > i128::from(numerator)
 }
 
-fn square(error: i32) -> i64
-    requires { unsigned_abs error ≤ 9000 }
-    ensures is { result ≡ error *ℤ error }
-    ensures bounds { (pos 0 ≤ℤ result) × (unsigned_abs result ≤ 81000000) }
+fn count_short(errors: &[i32]) -> usize
+    ensures { result ≡ short errors.now }
 {
-    let e = i64::from(error);
-    e * e
+    errors.iter().filter(|error| is_short(**error)).count()
+}
+
+// Each error is held against the MAV at its place.
+fn count_unreasonable(errors: &[i32], mavs: &[(u64, u16)], division: u32) -> usize
+    ensures { result ≡ unreasonable division mavs.now errors.now }
+{
+    mavs.iter()
+        .zip(errors)
+        .filter(|(mav, error)| is_unreasonable(**error, division, **mav))
+        .count()
 }
 
 // The figures of a sample, each error with the MAV at its place.
 pub(crate) fn measure(errors: &[i32], mavs: &[(u64, u16)], division: u32) -> Figures
-    requires errors_len_bound { (length errors.now ≤ 48) × (length mavs.now ≡ length errors.now) }
+    requires few { length errors.now ≤ 48 }
     requires small { Small errors.now }
     ensures are { result ≡ figures division mavs.now errors.now }
     ensures bounded { Bounded result }
 {
     let mut total: i64 = 0;
     let mut squares: i64 = 0;
-    let mut short: u32 = 0;
-    let mut unreasonable: u32 = 0;
-    for (i, error) in errors.iter().enumerate() {
-        total += i64::from(*error);
-        squares += square(*error);
-        short += u32::from(is_short(*error));
-        unreasonable += u32::from(is_unreasonable(*error, division, mavs[i]));
+    for error in errors {
+        let e = i64::from(*error);
+        total += e;
+        squares += e * e;
     }
+    let short = count_short(errors) as u32;
+    let unreasonable = count_unreasonable(errors, mavs, division) as u32;
     Figures {
         sample: errors.len() as u32,
         total,

@@ -11,16 +11,14 @@ use Rattle.decision.proofs.Ranges.{accepted}
 use Rattle.decision.proofs.Spread.{spread_positive}
 use Rattle.decision.proofs.deciding.decide.Goals as goal
 
-pub measure-figures-requires : goal.measure-figures-requires
-measure-figures-requires c =
-    let h = accepted (length c.args.mavs.now) c.args.rule c.args.errors.now (sym c.in_ok-ask.ensures) in
-    record { errors_len_bound = (h.few, h.beside); small = λ k l. omega (arith, h.inside k l) }
+pub measure-figures-requires-clause-small : goal.measure-figures-requires-clause-small
+measure-figures-requires-clause-small c k l = omega (arith, (accepted _ c.args.rule c.args.errors.now (sym c.in_ok-ask.ensures)).inside k l)
 
 module _ (division : ℕ) (mavs : List (ℕ × ℕ)) (rule : Rule) (es : List ℤ) where
   -- the figures of an accepted sample
-  judgeable : refusal (length mavs) rule es ≡ None → (f : Figures) → f ≡ figures division mavs es → Bounded f → Judgeable rule f
-  judgeable e f is b = subst (λ (g : Figures). Bounded g → Judgeable rule g) (sym is) (λ k.
-      let h = accepted (length mavs) rule es e in
+  judgeable : (m : ℕ) → refusal m rule es ≡ None → (f : Figures) → f ≡ figures division mavs es → Bounded f → Judgeable rule f
+  judgeable m e f is b = subst (λ (g : Figures). Bounded g → Judgeable rule g) (sym is) (λ k.
+      let h = accepted m rule es e in
       record { bounded = k; some = h.some; factor = h.factor; average = h.average; not_negative = spread_positive division mavs es }) b
 
   decided : (d : Decision) → Concluded rule (figures division mavs es) d → Decided division mavs rule es d
@@ -32,7 +30,7 @@ module _ (division : ℕ) (mavs : List (ℕ × ℕ)) (rule : Rule) (es : List �
 
 pub new-requires : goal.new-requires
 new-requires c =
-    judgeable c.args.division c.args.mavs.now c.args.rule c.args.errors.now (sym c.in_ok-ask.ensures) c.measure-figures.result c.measure-figures.ensures.are c.measure-figures.ensures.bounded
+    judgeable c.args.division c.args.mavs.now c.args.rule c.args.errors.now _ (sym c.in_ok-ask.ensures) c.measure-figures.result c.measure-figures.ensures.are c.measure-figures.ensures.bounded
 
 pub returns : goal.returns
 returns c = (

@@ -1,34 +1,40 @@
-use Rattle.std.proofs.Common.{◌≡◌, ℕ, ◌<◌, length, get_or, take, ℤ, pos, ◌*ℤ◌, refl, ap, ◌∙◌, arith, w32, SFits, rules}
+use Rattle.std.proofs.Common.{◌≡◌, ◌<◌, length, ℤ, pos, ◌*ℤ◌, get_or, ◌∙◌, w32, w64, SFits, arith, rules}
 use borrow.Author.Differences.{ints}
-use Rattle.std.proofs.lemmas.List.{take_all}
 use Rattle.std.proofs.lemmas.Int.{to_z-of_z}
-use Rattle.decision.specs.declared.outcome.Figures.{Figures}
-use Rattle.decision.specs.Sample.{total, squares, short, unreasonable, is_short, is_unreasonable}
-use Rattle.decision.proofs.Steps.{next}
+use Rattle.decision.proofs.Averages.{unreasonable_short, short_few}
+use Rattle.decision.proofs.Bounds.{mul_size}
+use Rattle.decision.proofs.Steps.{sum_more}
 use Rattle.decision.proofs.measuring.measure.Goals as goal
 
-pub loop-i-preserved : goal.loop-i-preserved
-loop-i-preserved c =
-    let lt : c.loop-i.i < length c.args.errors.now = search rules in
-    let f : SFits w32 (get_or c.args.errors.now c.loop-i.i (pos 0)) = search rules in
-    let back = to_z-of_z w32 _ f in
-    next c.args.division c.args.mavs.now c.args.errors.now c.loop-i.i _ _ _ _ c.loop-i.invariant lt c.requires.errors_len_bound.0 c.requires.errors_len_bound.1 (c.requires.small c.loop-i.i lt)
-    _ _ c.from-total.result c.square-squares.result c.is_short.result c.is_unreasonable.result c.from-short.result c.from-unreasonable.result
-    refl refl
-    (c.from-total.ensures ∙ back) (c.square-squares.ensures.is ∙ ap (λ z. z *ℤ z) back) c.square-squares.ensures.bounds.0 c.square-squares.ensures.bounds.1
-    (c.is_short.ensures ∙ ap is_short back) c.from-short.ensures
-    (c.is_unreasonable.ensures ∙ ap (is_unreasonable c.args.division (get_or c.args.mavs.now c.loop-i.i (0, 0))) back) c.from-unreasonable.ensures
+pub overflow_mul-squares : goal.overflow_mul-squares
+overflow_mul-squares c =
+    let x : ℤ = get_or c.args.errors.now c.loop-error.error-index (pos 0) in
+    let f : SFits w32 x = search rules in
+    let e : c.from-e.result ≡ x = c.from-e.ensures ∙ to_z-of_z w32 x f in
+    let s = c.requires.small c.loop-error.error-index c.loop-error-test.true in
+    let q = mul_size 9000 9000 x x s s in
+    let g : SFits w64 x = omega (arith, ints, s) in
+    let h : SFits w64 (x *ℤ x) = omega (arith, ints, q) in
+    simp e (simp to_z-of_z h)
 
-same_figures : (n : ℕ) (s s' q q' : ℤ) (h h' u u' : ℕ) → s ≡ s' → q ≡ q' → h ≡ h' → u ≡ u' →
-    ◌≡◌ {A = Figures} (record { sample = n; total = s; squares = q; short = h; unreasonable = u }) (record { sample = n; total = s'; squares = q'; short = h'; unreasonable = u' })
-same_figures n s s' q q' h h' u u' a b d e = cc
+pub loop-error-preserved : goal.loop-error-preserved
+loop-error-preserved c =
+    let x : ℤ = get_or c.args.errors.now c.loop-error.error-index (pos 0) in
+    let lt : c.loop-error.error-index < length c.args.errors.now = c.loop-error-test.true in
+    let f : SFits w32 x = search rules in
+    let e : c.from-e.result ≡ x = c.from-e.ensures ∙ to_z-of_z w32 x f in
+    let s = c.requires.small c.loop-error.error-index lt in
+    let q = mul_size 9000 9000 x x s s in
+    let g : SFits w64 x = omega (arith, ints, s) in
+    let h : SFits w64 (x *ℤ x) = omega (arith, ints, q) in
+    simp e (simp to_z-of_z (record {
+      total = omega (arith, ints, sum_more (λ e. e) c.args.errors.now c.loop-error.error-index lt);
+      squares = omega (arith, ints, sum_more (λ e. e *ℤ e) c.args.errors.now c.loop-error.error-index lt);
+      total_size = omega (arith, ints);
+      squares_size = omega (arith, ints);
+    }))
 
-pub returns : goal.returns
-returns c =
-    let es = take_all c.loop-i.i c.args.errors.now (search rules) in
-    let ms = take_all c.loop-i.i c.args.mavs.now (omega (arith, c.requires.errors_len_bound.1)) in
-    record {
-      are = same_figures _ _ _ _ _ _ _ _ _ (c.loop-i.invariant.total_is ∙ ap total es) (c.loop-i.invariant.squares_is ∙ ap squares es) (c.loop-i.invariant.short_is ∙ ap short es)
-          (c.loop-i.invariant.unreasonable_is ∙ ap (λ xs. unreasonable c.args.division xs (take c.loop-i.i c.args.errors.now)) ms ∙ ap (unreasonable c.args.division c.args.mavs.now) es);
-      bounded = record { sample = c.requires.errors_len_bound.0; total = omega (arith, ints, c.loop-i.invariant); squares = omega (arith, ints, c.loop-i.invariant) };
-    }
+pub overflow_cast-unreasonable : goal.overflow_cast-unreasonable
+overflow_cast-unreasonable c = record {
+  fits = omega (arith, unreasonable_short c.args.division c.args.mavs.now c.args.errors.now, short_few c.args.errors.now);
+}

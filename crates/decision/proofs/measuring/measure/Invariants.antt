@@ -1,5 +1,11 @@
-use Rattle.decision.proofs.Steps.{SoFar}
+use Rattle.std.proofs.Common.{◌≡◌, ◌*◌, ◌≤◌, take, nat_abs}
+use Rattle.decision.specs.Sample.{total, squares}
 use Rattle.decision.proofs.measuring.measure.Given as goal
 
-abbrev pub invariant-loop-i : goal.invariant-loop-i
-invariant-loop-i l = SoFar l.division l.mavs l.errors l.i l.total l.squares l.short l.unreasonable
+abbrev pub invariant-loop-error : goal.invariant-loop-error
+invariant-loop-error l = record {
+  total : l.total ≡ total (take l.error-index l.errors);
+  squares : l.squares ≡ squares (take l.error-index l.errors);
+  total_size : nat_abs l.total ≤ 9000 * l.error-index;
+  squares_size : nat_abs l.squares ≤ 81000000 * l.error-index;
+}
