@@ -7,6 +7,8 @@ use crate::plan::Plan;
 // A category of inspection. The meaning is fixed: for the lot size, the word of the kind and the sheet's label in base units, which
 // is 0 where each package has a label of its own, either no plan or a plan and, for each ratio in hundredths, how many packages
 // are opened in all to find the tare.
+//
+// The three stay arguments: each of two callers would make a struct of them for one call, and each clause take it apart again.
 pub trait Category {
     ghost meaning: { Self → ℕ → List ℕ → ℕ → Option Sampling };
 

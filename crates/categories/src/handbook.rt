@@ -21,7 +21,8 @@ pub enum HandbookCategory {
 impl TryFrom<char> for HandbookCategory {
     type Error = UnknownCategory;
 
-    ghost try_from_gives = { λ letter r. MatchResult r (λ category. letter_of letter ≡ Some category) (λ _. letter_of letter ≡ None) };
+    ghost try_from_gives = { λ letter r. MatchResult r
+        (λ category. letter_of letter ≡ Some category) (λ _. letter_of letter ≡ None) };
 
     fn try_from(letter: char) -> Result<Self, UnknownCategory> {
         match letter {

@@ -1,7 +1,7 @@
 use decision::rule::Rule;
 
 // A sampling plan.
-#[derive(Clone, Copy)]
+#[derive(Clone, Copy, Debug, PartialEq, Eq)]
 pub struct Plan {
     // how many packages are drawn
     pub sample: u32,

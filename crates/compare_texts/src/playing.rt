@@ -3,7 +3,7 @@ use anyhow::anyhow;
 use categories::handbook::HandbookCategory;
 use commands::command::Command;
 use commands::parsing::parse;
-use console::denial::Reply;
+use console::denial::Denial;
 use console::handling::handle;
 use console::session::Session;
 use history::entry::Entry;
@@ -11,6 +11,7 @@ use kinds::handbook::HandbookKind;
 use lots::lot::Lot;
 use packages::list::PackageList;
 use packages::records::Random;
+use sheet::record::Record;
 use std::alloc::{AllocError, Global};
 use words::lines::line_length;
 
@@ -38,7 +39,12 @@ impl Played {
     }
 
     // A command that was carried out or refused on an open sheet, or started one.
-    fn note(&mut self, command: Command, open: bool, reply: &Reply) -> Result<(), AllocError> {
+    fn note(
+        &mut self,
+        command: Command,
+        open: bool,
+        reply: &Result<Option<Record>, Denial>,
+    ) -> Result<(), AllocError> {
         match (command, open, reply) {
             (
                 Command::Lot {
@@ -47,7 +53,7 @@ impl Played {
                     lot,
                 },
                 false,
-                Reply::Quiet,
+                Ok(None),
             ) => {
                 self.typed = Some(Typed {
                     category,

@@ -1,7 +1,7 @@
 use commands::command::Command;
 use commands::fault::Fault;
 use comparison::premises::Premises;
-use console::denial::{Denial, Reply};
+use console::denial::Denial;
 use decision::outcome::Verdict;
 use sheet::call::Call;
 use sheet::record::Record;
@@ -51,15 +51,19 @@ fn print_denial(rt: &HostRuntime, denial: Denial) -> anyhow::Result<()> {
 }
 
 // A command and its answer.
-pub(crate) fn print_reply(rt: &HostRuntime, command: Command, reply: &Reply) -> anyhow::Result<()> {
+pub(crate) fn print_reply(
+    rt: &HostRuntime,
+    command: Command,
+    reply: &Result<Option<Record>, Denial>,
+) -> anyhow::Result<()> {
     let name = name_of(command);
     match place_of(command) {
         Some(place) => print!(rt; "{name} {place}: ")?,
         None => print!(rt; "{name}: ")?,
     }
     match reply {
-        Reply::Denied(denial) => print_denial(rt, *denial),
-        Reply::Quiet | Reply::Report(_) => Ok(println!(rt; "accepted")?),
+        Ok(_) => Ok(println!(rt; "accepted")?),
+        Err(denial) => print_denial(rt, *denial),
     }
 }
 

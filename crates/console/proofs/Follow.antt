@@ -29,15 +29,13 @@ use Rattle.sheet.specs.declared.call.Phase.TheVariants.{Unsettled}
 use Rattle.sheet.specs.declared.refusal.Refusal.{Refusal}
 use Rattle.sheet.specs.declared.sheet.Sheet.{Sheet}
 use Rattle.console.specs.declared.denial.Denial.TheVariants.{Refused}
-use Rattle.console.specs.declared.denial.Reply.{Reply}
-use Rattle.console.specs.declared.denial.Reply.TheVariants.{Quiet, Denied, Report}
 use Rattle.console.specs.declared.session.Session.{Session}
 use Rattle.console.specs.declared.session.Session.TheVariants.{Idle, Open}
-use Rattle.console.specs.Effects.{idle, inspecting, closed, quiet, Effect, standing, terms_on, begun, after_start, after_step, after_closing, by_refusal, reply_of, Follows}
+use Rattle.console.specs.Effects.{idle, inspecting, closed, Reply, quiet, Effect, standing, terms_on, begun, after_start, after_step, after_closing, by_refusal, reply_of, Follows}
 
 abbrev start_reply : Result (Sheet HandbookCategory HandbookKind) Refusal → Session × Reply
-start_reply (Ok s) = (Open s, Quiet)
-start_reply (Err e) = (Idle, Denied (Refused e))
+start_reply (Ok s) = (Open s, Ok None)
+start_reply (Err e) = (Idle, Err (Refused e))
 
 -- a lot command: the start is accepted, or refused, by the plan or the first question that fails
 module _ {P : Type 0} (records : pac.Ghosts P) (category : HandbookCategory) (kind : HandbookKind) (lot : Lot) (list : PackageList P) (rows₁ : List Reading) where
@@ -53,7 +51,7 @@ module _ {P : Type 0} (records : pac.Ghosts P) (category : HandbookCategory) (ki
       (refl, (λ i. inspecting (terms (categories.handbook (h.0 i)) (kinds.handbook (h.1 i)) records.labeled (h.2 i) (h.3 i)) (h.4 i)), h.5)
   by_plan (Ok plan) (Err why) h = absurd h
   by_plan (Err e) (Ok s) h = absurd h
-  by_plan (Err e) (Err why) h = (ap (λ e. Denied (Refused e)) h.0, refl, h.1)
+  by_plan (Err e) (Err why) h = (ap (λ e. Err (Refused e)) h.0, refl, h.1)
 
   pub started : (c : Command) → c ≡ LotOf category kind lot → (r : Result (Sheet HandbookCategory HandbookKind) Refusal)
       → Starts category kind lot (starting (planned (categories.handbook category) (kinds.handbook kind) lot) (length list.places.now)) rows r rows₁
@@ -89,11 +87,11 @@ module _ (labeled : Bool) (s : Sheet HandbookCategory HandbookKind) (rows rows�
       → Follows (after_closing t s.phase o) (inspecting t s.phase) rows (by_refusal s₁ why).1 (standing labeled (by_refusal s₁ why).0) rows₁
   kept_open o s₁ None e f some g = absurd (true≢false (sym some))
   kept_open o s₁ (Some why) e f some g =
-      subst (λ o. Follows (after_closing t s.phase o) (inspecting t s.phase) rows (Denied (Refused why)) (standing labeled (Open s₁)) rows₁) (sym f)
+      subst (λ o. Follows (after_closing t s.phase o) (inspecting t s.phase) rows (Err (Refused why)) (standing labeled (Open s₁)) rows₁) (sym f)
       (refl, (λ i. inspecting (terms_on labeled (e i)) (e i).phase), g)
 
   pub ended : (r : Result Record (Sheet HandbookCategory HandbookKind × Option Refusal)) → Turned t s rows entry.TheVariants.Close r rows₁
       → Follows (after_closing t s.phase (closing t s.phase rows)) (inspecting t s.phase) rows (reply_of r).1 (standing labeled (reply_of r).0) rows₁
   ended (Ok rec) h =
-      subst (λ o. Follows (after_closing t s.phase o) (inspecting t s.phase) rows (Report rec) closed rows₁) (sym h.0) (h.1, refl, h.2)
+      subst (λ o. Follows (after_closing t s.phase o) (inspecting t s.phase) rows (Ok (Some rec)) closed rows₁) (sym h.0) (h.1, refl, h.2)
   ended (Err back) h = kept_open (closing t s.phase rows) back.0 back.1 h.0 h.1 h.2 h.3

@@ -22,7 +22,6 @@ use Rattle.sheet.specs.declared.refusal.Refusal.{Refusal}
 use Rattle.sheet.specs.declared.sheet.Sheet.{Sheet}
 use Rattle.console.specs.declared.denial.Denial.{Denial}
 use Rattle.console.specs.declared.denial.Denial.TheVariants as denial
-use Rattle.console.specs.declared.denial.Reply as reply
 use Rattle.console.specs.declared.session.Session.{Session}
 use Rattle.console.specs.declared.session.Session.TheVariants as session
 
@@ -40,6 +39,10 @@ abbrev pub standing : Bool → Session → Standing
 standing labeled session.Idle = idle
 standing labeled (session.Open s) = inspecting (terms_on labeled s) s.phase
 standing labeled session.Closed = closed
+
+-- what a command is answered: nothing, the record of a closing, or why it is denied
+abbrev pub Reply : Type 0
+Reply = Result (Option Record) Denial
 
 -- nothing is said and the inspection goes on, or the command is denied, or the sheet is closed with a report
 pub data Effect : Type 0 where
@@ -85,21 +88,21 @@ abbrev pub on_sheet : Bool → Sheet HandbookCategory HandbookKind → List Read
 on_sheet labeled s rows c = advanced (terms_on labeled s) s.phase rows c
 
 -- what a turn of the sheet comes to: the sheet and a refusal if any, or the record of a closing
-abbrev pub by_refusal : Sheet HandbookCategory HandbookKind → Option Refusal → Session × reply.Reply
-by_refusal s None = (session.Open s, reply.TheVariants.Quiet)
-by_refusal s (Some e) = (session.Open s, reply.TheVariants.Denied (denial.Refused e))
+abbrev pub by_refusal : Sheet HandbookCategory HandbookKind → Option Refusal → Session × Reply
+by_refusal s None = (session.Open s, Ok None)
+by_refusal s (Some e) = (session.Open s, Err (denial.Refused e))
 
-abbrev pub reply_of : Result Record (Sheet HandbookCategory HandbookKind × Option Refusal) → Session × reply.Reply
-reply_of (Ok rec) = (session.Closed, reply.TheVariants.Report rec)
+abbrev pub reply_of : Result Record (Sheet HandbookCategory HandbookKind × Option Refusal) → Session × Reply
+reply_of (Ok rec) = (session.Closed, Ok (Some rec))
 reply_of (Err back) = by_refusal back.0 back.1
 
-abbrev pub Reports : Terms → Phase → List Reading → reply.Reply → Type 0
-Reports t ph rows reply.TheVariants.Quiet = ⊥
-Reports t ph rows (reply.TheVariants.Denied d) = ⊥
-Reports t ph rows (reply.TheVariants.Report rec) = Recorded t ph rows rec
+abbrev pub Reports : Terms → Phase → List Reading → Reply → Type 0
+Reports t ph rows (Ok None) = ⊥
+Reports t ph rows (Ok (Some rec)) = Recorded t ph rows rec
+Reports t ph rows (Err d) = ⊥
 
 -- what is replied, where the inspection then stands and what the list then holds; a denial leaves both as they were
-abbrev pub Follows : Effect → Standing → List Reading → reply.Reply → Standing → List Reading → Type 0
-Follows (quiet st rows) st₀ rows₀ r st₁ rows₁ = (r ≡ reply.TheVariants.Quiet) × (st₁ ≡ st) × (rows₁ ≡ rows)
-Follows (denied d) st₀ rows₀ r st₁ rows₁ = (r ≡ reply.TheVariants.Denied d) × (st₁ ≡ st₀) × (rows₁ ≡ rows₀)
+abbrev pub Follows : Effect → Standing → List Reading → Reply → Standing → List Reading → Type 0
+Follows (quiet st rows) st₀ rows₀ r st₁ rows₁ = (r ≡ Ok None) × (st₁ ≡ st) × (rows₁ ≡ rows)
+Follows (denied d) st₀ rows₀ r st₁ rows₁ = (r ≡ Err d) × (st₁ ≡ st₀) × (rows₁ ≡ rows₀)
 Follows (reported t ph) st₀ rows₀ r st₁ rows₁ = Reports t ph rows₀ r × (st₁ ≡ closed) × (rows₁ ≡ rows₀)

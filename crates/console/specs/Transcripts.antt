@@ -15,12 +15,10 @@ use Rattle.writing.specs.Bytes.{Wrote}
 use Rattle.writing.specs.Report.{report, refusal_line, still_open}
 use Rattle.writing.specs.declared.unwritten.Unwritten.{Unwritten}
 use Rattle.writing.specs.declared.unwritten.Unwritten.TheVariants.{FewBytes}
-use Rattle.console.specs.declared.denial.Reply.{Reply}
-use Rattle.console.specs.declared.denial.Reply.TheVariants.{Quiet, Denied, Report}
 use Rattle.console.specs.declared.session.Session.{Session}
 use Rattle.console.specs.declared.session.Session.TheVariants as session
 use Rattle.console.specs.Denials.{account}
-use Rattle.console.specs.Effects.{Standing, idle, inspecting, closed, Effect, quiet, denied, reported, effect}
+use Rattle.console.specs.Effects.{Standing, idle, inspecting, closed, Reply, Effect, quiet, denied, reported, effect}
 
 -- the column of the first word
 abbrev pub first_column : List Placed → ℕ
@@ -32,9 +30,9 @@ refused_at line column account = refusal_line line column account.letter account
 
 -- what a reply prints
 abbrev pub told_by : ℕ → ℕ → Reply → List ℕ
-told_by line column Quiet = []
-told_by line column (Denied d) = refused_at line column (account d)
-told_by line column (Report rec) = report rec
+told_by line column (Ok None) = []
+told_by line column (Ok (Some rec)) = report rec
+told_by line column (Err d) = refused_at line column (account d)
 
 -- what a line comes to: bytes that are said and how the inspection goes on, or the report of a closing
 pub data Said : Type 0 where

@@ -1,7 +1,17 @@
 ghost use Rattle.std.specs.Prelude.{◌≡◌};
 ghost use Rattle.console.specs.Denials.{account};
+ghost use Rattle.console.specs.declared.denial.Denial.TheVariants.{Refused};
 
 use crate::denial::Denial;
+use sheet::refusal::Refusal;
+
+impl From<Refusal> for Denial {
+    ghost from_gives = { λ refusal denial. denial ≡ Refused refusal };
+
+    fn from(refusal: Refusal) -> Denial {
+        Self::Refused(refusal)
+    }
+}
 
 impl Denial {
     // The number of the question that was answered by no.

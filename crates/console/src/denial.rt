@@ -1,8 +1,7 @@
-use sheet::record::Record;
 use sheet::refusal::Refusal;
 
 // Why a command is not carried out.
-#[derive(Clone, Copy)]
+#[derive(Clone, Copy, Debug, PartialEq, Eq)]
 pub enum Denial {
     // no sheet is open
     NotOpen,
@@ -10,12 +9,4 @@ pub enum Denial {
     Started,
     // the sheet refused it
     Refused(Refusal),
-}
-
-// What a command comes to.
-#[derive(Drop)]
-pub enum Reply {
-    Quiet,
-    Denied(Denial),
-    Report(Record),
 }

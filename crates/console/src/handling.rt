@@ -1,8 +1,9 @@
-ghost use Rattle.std.specs.Prelude.{◌≡◌, length};
+ghost use Rattle.std.specs.Prelude.{◌≡◌};
+ghost use Rattle.packages.specs.Memory.{SameMemory};
 ghost use Rattle.sheet.specs.Views.{rows_of};
 ghost use Rattle.console.specs.Effects.{idle, standing, reply_of, on_sheet, begun, effect, Follows};
 
-use crate::denial::{Denial, Reply};
+use crate::denial::Denial;
 use crate::session::Session;
 use categories::handbook::HandbookCategory;
 use commands::command::Command;
@@ -16,10 +17,12 @@ use sheet::refusal::Refusal;
 use sheet::sheet::Sheet;
 
 // A command where no sheet was started.
-fn begin<P: Package>(list: &mut PackageList<P>, command: Command) -> (Session, Reply)
+fn begin<P: Package>(
+    list: &mut PackageList<P>,
+    command: Command,
+) -> (Session, Result<Option<Record>, Denial>)
     ensures follows { Follows (begun P.Package.labeled (rows_of P.Package list.old) command) idle (rows_of P.Package list.old) result.1 (standing P.Package.labeled result.0) (rows_of P.Package list.new) }
-    ensures lends { list.new.places.ghost_name ≡ list.old.places.ghost_name }
-    ensures len { length list.new.places.now ≡ length list.old.places.now }
+    ensures memory { SameMemory list.old.places list.new.places }
 {
     let Command::Lot {
         category,
@@ -27,29 +30,24 @@ fn begin<P: Package>(list: &mut PackageList<P>, command: Command) -> (Session, R
         lot,
     } = command
     else {
-        return (Session::Idle, Reply::Denied(Denial::NotOpen));
+        return (Session::Idle, Err(Denial::NotOpen));
     };
     match Sheet::start(category, kind, lot, list) {
-        Ok(sheet) => (Session::Open(sheet), Reply::Quiet),
-        Err(refusal) => (Session::Idle, Reply::Denied(Denial::Refused(refusal))),
+        Ok(sheet) => (Session::Open(sheet), Ok(None)),
+        Err(refusal) => (Session::Idle, Err(refusal.into())),
     }
 }
 
 // What a turn of the sheet comes to.
 fn reply_of(
     turned: Result<Record, (Sheet<HandbookCategory, HandbookKind>, Option<Refusal>)>,
-) -> (Session, Reply)
+) -> (Session, Result<Option<Record>, Denial>)
     ensures { result ≡ reply_of turned }
 {
     match turned {
-        Ok(record) => (Session::Closed, Reply::Report(record)),
-        Err(open) => {
-            let (back, refusal) = open;
-            match refusal {
-                None => (Session::Open(back), Reply::Quiet),
-                Some(refusal) => (Session::Open(back), Reply::Denied(Denial::Refused(refusal))),
-            }
-        }
+        Ok(record) => (Session::Closed, Ok(Some(record))),
+        Err((sheet, None)) => (Session::Open(sheet), Ok(None)),
+        Err((sheet, Some(refusal))) => (Session::Open(sheet), Err(refusal.into())),
     }
 }
 
@@ -58,13 +56,12 @@ fn advance<P: Package>(
     sheet: Sheet<HandbookCategory, HandbookKind>,
     list: &mut PackageList<P>,
     command: Command,
-) -> (Session, Reply)
+) -> (Session, Result<Option<Record>, Denial>)
     ensures follows { Follows (on_sheet P.Package.labeled sheet (rows_of P.Package list.old) command) (standing P.Package.labeled (Session.Open sheet)) (rows_of P.Package list.old) result.1 (standing P.Package.labeled result.0) (rows_of P.Package list.new) }
-    ensures lends { list.new.places.ghost_name ≡ list.old.places.ghost_name }
-    ensures len { length list.new.places.now ≡ length list.old.places.now }
+    ensures memory { SameMemory list.old.places list.new.places }
 {
     match command {
-        Command::Lot { .. } => (Session::Open(sheet), Reply::Denied(Denial::Started)),
+        Command::Lot { .. } => (Session::Open(sheet), Err(Denial::Started)),
         Command::Call(call) => reply_of(turn(sheet, list, Entry::Call(call))),
         Command::End => reply_of(turn(sheet, list, Entry::Close)),
     }
@@ -75,10 +72,9 @@ pub fn handle<P: Package>(
     session: Session,
     list: &mut PackageList<P>,
     command: Command,
-) -> (Session, Reply)
+) -> (Session, Result<Option<Record>, Denial>)
     ensures follows { Follows (effect P.Package.labeled (standing P.Package.labeled session) (rows_of P.Package list.old) command) (standing P.Package.labeled session) (rows_of P.Package list.old) result.1 (standing P.Package.labeled result.0) (rows_of P.Package list.new) }
-    ensures lends { list.new.places.ghost_name ≡ list.old.places.ghost_name }
-    ensures len { length list.new.places.now ≡ length list.old.places.now }
+    ensures memory { SameMemory list.old.places list.new.places }
 {
     match session {
         Session::Idle => begin(list, command),
@@ -88,7 +84,7 @@ pub fn handle<P: Package>(
                 Command::Lot { .. } => Denial::Started,
                 Command::Call(_) | Command::End => Denial::NotOpen,
             };
-            (Session::Closed, Reply::Denied(denial))
+            (Session::Closed, Err(denial))
         }
     }
 }

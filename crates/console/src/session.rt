@@ -8,3 +8,15 @@ pub enum Session {
     Open(Sheet<HandbookCategory, HandbookKind>),
     Closed,
 }
+
+impl Session {
+    // Lets the inspection go, with its sheet if one is open.
+    pub(crate) fn abandon(self) {
+        match self {
+            Session::Open(sheet) => {
+                let _ = sheet.discard();
+            }
+            Session::Idle | Session::Closed => {}
+        }
+    }
+}

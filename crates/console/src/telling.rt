@@ -1,4 +1,5 @@
 ghost use Rattle.std.specs.Prelude.{◌≡◌, ◌≤◌, length, IfOk};
+ghost use Rattle.packages.specs.Memory.{SameMemory};
 ghost use Rattle.words.specs.Lines.{words as words_of};
 ghost use Rattle.sheet.specs.Views.{rows_of};
 ghost use Rattle.writing.specs.Writes.{Writes};
@@ -6,13 +7,14 @@ ghost use Rattle.commands.specs.Faults.{account as fault_account};
 ghost use Rattle.console.specs.Effects.{standing};
 ghost use Rattle.console.specs.Transcripts.{first_column, refused_at, told_by, said, ending, Answers, Ended};
 
-use crate::denial::Reply;
+use crate::denial::Denial;
 use crate::handling::handle;
 use crate::session::Session;
 use commands::fault::Fault;
 use commands::parsing::parse;
 use packages::list::PackageList;
 use packages::package::Package;
+use sheet::record::Record;
 use words::reader::Reader;
 use writing::refusing::write_refusal;
 use writing::reporting::{write_open, write_report};
@@ -22,10 +24,9 @@ use writing::unwritten::Unwritten;
 fn first_column(text: &[u8]) -> usize
     ensures { result ≡ first_column (words_of 1 text.now) }
 {
-    match Reader::new(text, 1).next_word() {
-        Some(first) => first.column,
-        None => 1,
-    }
+    Reader::new(text, 1)
+        .next_word()
+        .map_or(1, |first| first.column)
 }
 
 // The line of a text that is not read.
@@ -42,20 +43,19 @@ fn tell_fault(fault: Fault, out: &mut [u8]) -> Result<usize, Unwritten>
 }
 
 // What a command came to, of a line with its number and the column of its first word.
-fn tell(reply: Reply, line: usize, column: usize, out: &mut [u8]) -> Result<usize, Unwritten>
+fn tell(
+    reply: Result<Option<Record>, Denial>,
+    line: usize,
+    column: usize,
+    out: &mut [u8],
+) -> Result<usize, Unwritten>
     requires { 256 ≤ length out.old }
     ensures { Writes 256 (told_by line column reply) out.old result out.new }
 {
     match reply {
-        Reply::Quiet => Ok(0),
-        Reply::Denied(denial) => write_refusal(
-            line,
-            column,
-            denial.letter() as u8,
-            denial.number(),
-            out,
-        ),
-        Reply::Report(record) => write_report(&record, out),
+        Ok(None) => Ok(0),
+        Ok(Some(record)) => write_report(&record, out),
+        Err(denial) => write_refusal(line, column, denial.letter() as u8, denial.number(), out),
     }
 }
 
@@ -69,31 +69,18 @@ pub fn take_line<P: Package>(
 ) -> (Session, Result<usize, Unwritten>)
     ensures answers { Answers (said P.Package.labeled line text.now (standing P.Package.labeled session) (rows_of P.Package list.old)) (standing P.Package.labeled session) (rows_of P.Package list.old) out.old result.1 out.new (standing P.Package.labeled result.0) (rows_of P.Package list.new) }
     ensures fits { IfOk result.1 (λ n. n ≤ length out.new) }
-    ensures lends { list.new.places.ghost_name ≡ list.old.places.ghost_name }
-    ensures len { length list.new.places.now ≡ length list.old.places.now }
+    ensures memory { SameMemory list.old.places list.new.places }
 {
     if out.len() < 256 {
         return (session, Err(Unwritten::FewBytes));
     }
     match parse(text, line) {
         Err(fault) => (session, tell_fault(fault, out)),
-        Ok(read) => match read {
-            None => (session, Ok(0)),
-            Some(command) => {
-                let (session, reply) = handle(session, list, command);
-                (session, tell(reply, line, first_column(text), out))
-            }
-        },
-    }
-}
-
-// Lets an inspection go.
-pub(crate) fn abandon(session: Session) {
-    match session {
-        Session::Open(sheet) => {
-            let _ = sheet.discard();
+        Ok(None) => (session, Ok(0)),
+        Ok(Some(command)) => {
+            let (session, reply) = handle(session, list, command);
+            (session, tell(reply, line, first_column(text), out))
         }
-        Session::Idle | Session::Closed => {}
     }
 }
 
@@ -106,9 +93,8 @@ pub fn finish(session: Session, out: &mut [u8]) -> Result<usize, (Session, Unwri
     }
     match session {
         Session::Closed => Ok(0),
-        Session::Idle => Ok(write_open(out).unwrap()),
-        Session::Open(sheet) => {
-            let _ = sheet.discard();
+        open => {
+            open.abandon();
             Ok(write_open(out).unwrap())
         }
     }

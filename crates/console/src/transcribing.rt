@@ -1,13 +1,14 @@
-ghost use Rattle.std.specs.Prelude.{◌≡◌, length, IfOk};
+ghost use Rattle.std.specs.Prelude.{IfOk};
+ghost use Rattle.packages.specs.Memory.{SameMemory};
 ghost use Rattle.sheet.specs.Views.{rows_of};
 ghost use Rattle.console.specs.Transcripts.{Transcript};
 
+use crate::lines::Lines;
 use crate::session::Session;
-use crate::telling::{abandon, finish, take_line};
+use crate::telling::{finish, take_line};
 use packages::list::PackageList;
 use packages::package::Package;
 use std::alloc::{AllocError, Global};
-use words::lines::line_length;
 
 // What is printed of a whole text, line by line.
 pub fn transcribe<P: Package>(
@@ -16,8 +17,7 @@ pub fn transcribe<P: Package>(
     list: &mut PackageList<P>,
 ) -> Result<Vec<u8>, AllocError>
     ensures transcript { IfOk result (λ v. Transcript P.Package.labeled text.now (rows_of P.Package list.old) v.items) }
-    ensures lends { list.new.places.ghost_name ≡ list.old.places.ghost_name }
-    ensures len { length list.new.places.now ≡ length list.old.places.now }
+    ensures memory { SameMemory list.old.places list.new.places }
 {
     let mut all = Vec::new(heap);
     if text.len() > 65_536 {
@@ -26,28 +26,22 @@ pub fn transcribe<P: Package>(
     }
     let mut out = [0; 256];
     let mut session = Session::Idle;
-    let mut at = 0;
-    let mut line = 1;
-    while at < text.len() {
-        let end = at + line_length(&text[at..]);
-        let (next, written) = take_line(session, list, line, &text[at..end], &mut out);
+    for (at, line) in Lines(text).enumerate() {
+        let (next, written) = take_line(session, list, at + 1, line, &mut out);
         session = next;
         let Ok(n) = written else { unreachable() };
-        if let Err(error) = all.extend_from_slice(&out[0..n]) {
-            abandon(session);
+        if let Err(error) = all.extend_from_slice(&out[..n]) {
+            session.abandon();
             return Err(error);
         }
-        at = end + 1;
-        line += 1;
     }
     match finish(session, &mut out) {
         Ok(n) => {
-            all.extend_from_slice(&out[0..n])?;
+            all.extend_from_slice(&out[..n])?;
             Ok(all)
         }
-        Err(open) => {
-            let (back, _) = open;
-            abandon(back);
+        Err((back, _)) => {
+            back.abandon();
             unreachable()
         }
     }

@@ -1,37 +1,30 @@
 -- The questions put to a sample.
-use Rattle.std.proofs.Common.{◌≡◌, ℕ, zero, suc, ◌*◌, ◌<◌, ◌≤◌, Bool, true, false, cond, not, ◌||◌, eqb, ltb, List, [], ◌∷◌, length, get_or, ℤ, pos, nat_abs, Some, None, Option, refl, ap, ◌∙◌, suc-le-suc, arith}
+use Rattle.std.proofs.Common.{◌≡◌, ℕ, ◌*◌, ◌<◌, ◌≤◌, Bool, true, false, cond, not, ◌||◌, eqb, ltb, List, length, get_or, ℤ, pos, nat_abs, Some, None, Option, refl, arith}
 use Rattle.std.proofs.lemmas.Bool.{cond-true, cond-false, lt-ltb, le-ltb, ltb-false}
-use Rattle.std.specs.Option.{option_map}
+use Rattle.std.specs.List.{position_or_len}
+use Rattle.std.proofs.lemmas.List.Sums.{position_or_len_is, fails_before_first}
 use Rattle.decision.specs.declared.outcome.Fault.{Fault}
 use Rattle.decision.specs.declared.outcome.Fault.TheVariants.{Count, Mavs}
 use Rattle.decision.specs.declared.rule.Rule.{Rule}
 use Rattle.decision.specs.Answer.{outside, ranged, refusal}
 
--- the place i is the first outside
-pub outside_found : (es : List ℤ) (i : ℕ) → i < length es → ((k : ℕ) → k < i → nat_abs (get_or es k (pos 0)) ≤ 8000) → 8000 < nat_abs (get_or es i (pos 0)) → outside es ≡ Some i
-outside_found [] i l b f = absurd (omega arith)
-outside_found (e ∷ es) zero l b f = cond-true _ _ _ (lt-ltb 8000 (nat_abs e) f)
-outside_found (e ∷ es) (suc i) l b f =
-    cond-false _ _ _ (le-ltb 8000 (nat_abs e) (b 0 (omega arith))) ∙ ap (option_map suc) (outside_found es i (omega arith) (λ k h. b (suc k) (suc-le-suc h)) f)
+-- the test of `outside`
+abbrev far : ℤ → Bool
+far e = ltb 8000 (nat_abs e)
 
--- none is
-pub outside_none : (es : List ℤ) → ((k : ℕ) → k < length es → nat_abs (get_or es k (pos 0)) ≤ 8000) → outside es ≡ None
-outside_none [] b = refl
-outside_none (e ∷ es) b = cond-false _ _ _ (le-ltb 8000 (nat_abs e) (b 0 (omega arith))) ∙ ap (option_map suc) (outside_none es (λ k h. b (suc k) (suc-le-suc h)))
+module _ (es : List ℤ) where
+  -- the place i is the first outside
+  pub outside_found : (i : ℕ) → i < length es → ((k : ℕ) → k < i → nat_abs (get_or es k (pos 0)) ≤ 8000) → 8000 < nat_abs (get_or es i (pos 0)) → outside es ≡ Some i
+  outside_found i l b f =
+      rw (position_or_len_is far es i (pos 0) (omega arith) (λ k h. le-ltb 8000 _ (b k h)) (λ _. lt-ltb 8000 _ f)) (cond-true _ _ _ (lt-ltb i (length es) l))
 
-mapped_none : (o : Option ℕ) → option_map suc o ≡ None → o ≡ None
-mapped_none None e = refl
-mapped_none (Some x) e = absurd (let z : ◌≡◌ {A = ℕ} 0 1 = cc in omega arith)
+  -- none is
+  pub outside_none : ((k : ℕ) → k < length es → nat_abs (get_or es k (pos 0)) ≤ 8000) → outside es ≡ None
+  outside_none b =
+      rw (position_or_len_is far es (length es) (pos 0) (omega arith) (λ k h. le-ltb 8000 _ (b k h)) (λ l. absurd (omega (arith, l)))) (cond-false _ _ _ (le-ltb (length es) (length es) (omega arith)))
 
-inside_step : (x : ℤ) (es : List ℤ) (b : Bool) → ltb 8000 (nat_abs x) ≡ b → cond b (Some 0) (option_map suc (outside es)) ≡ None →
-    (outside es ≡ None → (k : ℕ) → k < length es → nat_abs (get_or es k (pos 0)) ≤ 8000) → (k : ℕ) → k < suc (length es) → nat_abs (get_or (x ∷ es) k (pos 0)) ≤ 8000
-inside_step x es true t f rest k l = absurd (let z : ◌≡◌ {A = ℕ} 0 1 = cc in omega arith)
-inside_step x es false t f rest zero l = ltb-false 8000 (nat_abs x) t
-inside_step x es false t f rest (suc k) l = rest (mapped_none (outside es) f) k (omega arith)
-
-inside_all : (es : List ℤ) → outside es ≡ None → (k : ℕ) → k < length es → nat_abs (get_or es k (pos 0)) ≤ 8000
-inside_all [] e k l = absurd (omega arith)
-inside_all (x ∷ es) e k l = inside_step x es (ltb 8000 (nat_abs x)) refl e (inside_all es) k l
+  inside_all : outside es ≡ None → (k : ℕ) → k < length es → nat_abs (get_or es k (pos 0)) ≤ 8000
+  inside_all e k l = ltb-false 8000 _ (fails_before_first far es k (pos 0) (let h : ltb (position_or_len far es) (length es) ≡ false = grind arith in omega (arith, ltb-false _ _ h)))
 
 -- a sample that fails no question
 pub record Accepted (mavs : ℕ) (rule : Rule) (es : List ℤ) : Type 0 where

@@ -1,6 +1,5 @@
 -- What is answered to a sample.
-use Rattle.std.specs.Prelude.{◌≡◌, ℕ, suc, ◌*◌, ◌≤◌, cond, not, ◌&&◌, ◌||◌, List, [], ◌∷◌, length, ℤ, Some, None, Ok, Err, Option, Result, ◌==◌, nat_lt, unsigned_abs}
-use Rattle.std.specs.Option.{option_map}
+use Rattle.std.specs.Prelude.{◌≡◌, ℕ, ◌*◌, ◌≤◌, cond, not, ◌&&◌, ◌||◌, List, length, position, ℤ, Some, None, Ok, Err, Option, Result, ◌==◌, nat_lt, unsigned_abs}
 use Rattle.decision.specs.declared.outcome.Decision.{Decision}
 use Rattle.decision.specs.declared.outcome.Fault.{Fault}
 use Rattle.decision.specs.declared.outcome.Fault.TheVariants.{Count, Mavs, Range, Factor, Allowed, Average}
@@ -11,8 +10,7 @@ use Rattle.decision.specs.Verdicts.{counted, verdict, Deviates, ByAverage}
 
 -- the first error that is not from -8000 to 8000, by its place from 0
 abbrev pub outside : List ℤ → Option ℕ
-outside [] = None
-outside (e ∷ es) = cond (nat_lt 8000 (unsigned_abs e)) (Some 0) (option_map suc (outside es))
+outside es = position (λ e. nat_lt 8000 (unsigned_abs e)) es
 
 -- the first question that a sample fails
 abbrev pub ranged : Rule → ℕ → Option ℕ → Option Fault

@@ -1,12 +1,12 @@
 -- The verdict on a sample, from its figures alone.
-use Rattle.std.specs.Prelude.{◌≡◌, ℕ, ◌-◌, ◌*◌, ◌/◌, ◌≤◌, Bool, true, cond, not, List, length, codes, ℤ, pos, ◌-ℤ◌, ◌*ℤ◌, ◌<ℤ◌, int_le, int_lt, nat_lt, unsigned_abs}
+use Rattle.std.specs.Prelude.{◌≡◌, ℕ, ◌-◌, ◌*◌, ◌/◌, ◌≤◌, Bool, true, cond, not, List, length, codes, ℤ, pos, ◌-ℤ◌, ◌*ℤ◌, ◌≤ℤ◌, ◌<ℤ◌, int_le, int_lt, nat_lt, unsigned_abs}
 use Rattle.decision.specs.declared.outcome.Figures.{Figures}
 use Rattle.decision.specs.declared.outcome.Verdict.{Verdict}
 use Rattle.decision.specs.declared.outcome.Verdict.TheVariants.{Mav, Plan, Over, Average, Within}
 use Rattle.decision.specs.declared.rule.Counted.{Counted}
 use Rattle.decision.specs.declared.rule.Counted.TheVariants.{Unreasonable, Short}
 use Rattle.decision.specs.declared.rule.Rule.{Rule}
-use Rattle.decision.specs.Sample.{total, pairs}
+use Rattle.decision.specs.Sample.{total, pairs, Bounded}
 
 -- K, how many packages count against the allowed number
 abbrev pub chosen : Counted → ℕ → ℕ → ℕ
@@ -19,6 +19,14 @@ counted rule f = chosen rule.counted f.unreasonable f.short
 -- n * Q - S * S
 abbrev pub spread : Figures → ℤ
 spread f = pos f.sample *ℤ f.squares -ℤ f.total *ℤ f.total
+
+-- figures that the rule judges without leaving 64 bits
+pub record Judgeable (rule : Rule) (f : Figures) : Type 0 where
+  pub bounded : Bounded f
+  pub some : 1 ≤ f.sample
+  pub factor : rule.factor * f.sample ≤ 18000
+  pub average : rule.average ≡ true → 2 ≤ f.sample
+  pub not_negative : pos 0 ≤ℤ spread f
 
 -- S * S * 10^6 * (n - 1) > factor * factor * n * (n * Q - S * S)
 abbrev pub falls : ℕ → Figures → Bool

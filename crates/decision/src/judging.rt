@@ -1,65 +1,97 @@
-ghost use Rattle.std.specs.Prelude.{◌≡◌, ◌*◌, ◌^◌, ◌<◌, ◌≤◌, pos, ◌≤ℤ◌, unsigned_abs};
-ghost use Rattle.decision.specs.Sample.{Bounded};
-ghost use Rattle.decision.specs.Verdicts.{counted, spread, falls, verdict, Largest};
+ghost use Rattle.std.specs.Prelude.{◌≡◌, ◌≤◌, pos};
+ghost use Rattle.decision.specs.Verdicts.{counted, spread as spread_of, falls, verdict, Deviates, Judgeable};
+ghost use Rattle.decision.specs.Answer.{Concluded};
 
-use crate::outcome::{Figures, Verdict};
+use crate::outcome::{Decision, Figures, Verdict};
 use crate::rule::{Counted, Rule};
 
-// K: how many packages count against the allowed number.
-pub(crate) fn counted_of(rule: Rule, figures: Figures) -> u32
-    ensures { result ≡ counted rule figures }
-{
-    match rule.counted {
-        Counted::Unreasonable => figures.unreasonable,
-        Counted::Short => figures.short,
+// The figures of a sample before the rule that judges them.
+#[derive(Drop)]
+pub(crate) struct Case {
+    rule: Rule,
+    figures: Figures,
+    // n * Q - S * S
+    spread: i64,
+    ghost judgeable: { Judgeable rule figures },
+    ghost spread_is: { spread ≡ spread_of figures },
+}
+
+impl Case {
+    pub(crate) fn new(rule: Rule, figures: Figures) -> Case
+        requires { Judgeable rule figures }
+        ensures rule { result.rule ≡ rule }
+        ensures figures { result.figures ≡ figures }
+    {
+        let spread = i64::from(figures.sample) * figures.squares - figures.total * figures.total;
+        Case {
+            rule,
+            figures,
+            spread,
+        }
     }
-}
 
-// n * Q - S * S
-pub(crate) fn spread_of(figures: Figures) -> i64
-    requires { Bounded figures }
-    ensures is { result ≡ spread figures }
-    ensures size { unsigned_abs result ≤ 162000000 * (figures.sample * figures.sample) }
-{
-    i64::from(figures.sample) * figures.squares - figures.total * figures.total
-}
-
-// The average shortfall is above the sample error limit, squared and without fractions.
-fn falls_below(figures: Figures, factor: u32, varied: i64) -> bool
-    requires bounded { (Bounded figures) × ((1 ≤ figures.sample) × (factor * figures.sample ≤ 18000)) }
-    requires varied_value { (varied ≡ spread figures) × (unsigned_abs varied ≤ 162000000 * (figures.sample * figures.sample)) }
-    ensures { result ≡ falls factor figures }
-{
-    let n = figures.sample;
-    let weight = i64::from(factor * factor * n);
-    figures.total * figures.total * i64::from(1_000_000 * (n - 1)) > weight * varied
-}
-
-// The first verdict that fits.
-pub(crate) fn judge(rule: Rule, figures: Figures, varied: i64) -> Verdict
-    requires bounded { (Bounded figures) × ((1 ≤ figures.sample) × (rule.factor * figures.sample ≤ 18000)) }
-    requires varied_value { (varied ≡ spread figures) × (unsigned_abs varied ≤ 162000000 * (figures.sample * figures.sample)) }
-    ensures { result ≡ verdict rule figures }
-{
-    if counted_of(rule, figures) > rule.allowed {
-        Verdict::Mav
-    } else if !rule.average {
-        Verdict::Plan
-    } else if figures.total >= 0 {
-        Verdict::Over
-    } else if falls_below(figures, rule.factor, varied) {
-        Verdict::Average
-    } else {
-        Verdict::Within
+    // K: how many packages count against the allowed number.
+    fn counted(&self) -> u32
+        ensures { result ≡ counted self.now.rule self.now.figures }
+    {
+        match self.rule.counted {
+            Counted::Unreasonable => self.figures.unreasonable,
+            Counted::Short => self.figures.short,
+        }
     }
-}
 
-// The sample standard deviation in thousandths, fraction dropped.
-pub(crate) fn deviation_of(sample: u32, varied: u64) -> u64
-    requires { (2 ≤ sample) × ((sample ≤ 48) × (varied ≤ 400000000000)) }
-    ensures largest { Largest sample (1000000 * varied) result }
-    ensures bound { result < 2 ^ 32 }
-{
-    let n = u64::from(sample);
-    (1_000_000 * varied / (n * (n - 1))).isqrt()
+    // The average shortfall is above the sample error limit, squared and without fractions.
+    fn falls_below(&self) -> bool
+        ensures { result ≡ falls self.now.rule.factor self.now.figures }
+    {
+        let n = self.figures.sample;
+        let total = self.figures.total;
+        let factor = self.rule.factor;
+        let weight = i64::from(factor * factor * n);
+        total * total * i64::from(1_000_000 * (n - 1)) > weight * self.spread
+    }
+
+    // The first verdict that fits.
+    fn verdict(&self) -> Verdict
+        ensures { result ≡ verdict self.now.rule self.now.figures }
+    {
+        if self.counted() > self.rule.allowed {
+            Verdict::Mav
+        } else if !self.rule.average {
+            Verdict::Plan
+        } else if self.figures.total >= 0 {
+            Verdict::Over
+        } else if self.falls_below() {
+            Verdict::Average
+        } else {
+            Verdict::Within
+        }
+    }
+
+    // The sample standard deviation and the sample error limit in thousandths, fractions dropped. Both are 0
+    // where the average does not apply.
+    fn deviation_and_limit(&self) -> (u64, u64)
+        ensures { Deviates self.now.rule self.now.figures result.0 result.1 }
+    {
+        if !self.rule.average {
+            return (0, 0);
+        }
+        let n = u64::from(self.figures.sample);
+        let deviation = (1_000_000 * self.spread as u64 / (n * (n - 1))).isqrt();
+        let limit = deviation * u64::from(self.rule.factor) / 1_000;
+        (deviation, limit)
+    }
+
+    pub(crate) fn decision(&self) -> Decision
+        ensures { Concluded self.now.rule self.now.figures result }
+    {
+        let (deviation, limit) = self.deviation_and_limit();
+        Decision {
+            figures: self.figures,
+            counted: self.counted(),
+            verdict: self.verdict(),
+            deviation,
+            limit,
+        }
+    }
 }

@@ -11,7 +11,7 @@ use Rattle.sheet.specs.declared.call.Phase.TheVariants.{Unsettled, Settled}
 use Rattle.sheet.specs.declared.refusal.Refusal.{Refusal}
 use Rattle.sheet.specs.declared.refusal.Refusal.TheVariants as why
 use Rattle.sheet.specs.Calls.{place_of, placed, weighable, frozen, performed, thawed, step}
-use Rattle.sheet.specs.Steps.{Outcome, taken, refused, weigh_on, correct_on, strike_on, open_on, written}
+use Rattle.sheet.specs.Steps.{Outcome, taken, refused, weighed, corrected, struck, opened, placing}
 use Rattle.sheet.specs.Tare.{all_opened, total_for, average_of, settling, settles, settle, reopen}
 use Rattle.sheet.specs.Terms.{Terms}
 use Rattle.history.specs.Memory.{Weighing, weighing, noted, tare_noted}
@@ -69,8 +69,8 @@ module _ (t : Terms) (ph : Phase) (rows : List Reading) (w : ℕ → Weighing) (
     tare = inv.tare;
   }
 
-  weighed : (p g : ℕ) (l : Option ℕ) → 1 ≤ p → p ≤ t.sample → Inv t ph (set rows (p - 1) (stored t.labeled (Weighed g l))) (λ q. cond (eqb p q) (weighing g l) (w q)) av
-  weighed p g l lo hi =
+  written : (p g : ℕ) (l : Option ℕ) → 1 ≤ p → p ≤ t.sample → Inv t ph (set rows (p - 1) (stored t.labeled (Weighed g l))) (λ q. cond (eqb p q) (weighing g l) (w q)) av
+  written p g l lo hi =
       write p (stored t.labeled (Weighed g l)) (λ q. cond (eqb p q) (weighing g l) (w q)) lo hi
       (subst (λ (b : Bool). Holds t.labeled (stored t.labeled (Weighed g l)) (cond b (weighing g l) (w p))) (sym (eq-eqb p p refl)) (holds_weighed t.labeled g l))
       (λ q n. cond-false _ _ _ (ne_eqb p q (λ e. n (sym e))))
@@ -81,27 +81,27 @@ module _ (t : Terms) (ph : Phase) (rows : List Reading) (w : ℕ → Weighing) (
   opened_at : (p g : ℕ) (l : Option ℕ) (tare : ℕ) → 1 ≤ p → p ≤ t.sample → g ≡ (w p).gross → l ≡ kept t.labeled (w p).label → Inv t ph (set rows (p - 1) (stored t.labeled (Opened g l tare))) w av
   opened_at p g l tare lo hi a b = write p (stored t.labeled (Opened g l tare)) w lo hi (holds_opened t.labeled g l tare (w p) a b) (λ q n. refl)
 
-  weigh_fine : (p g : ℕ) (l : Option ℕ) (r : Reading) → 1 ≤ p → p ≤ t.sample → Fine t w av (Weigh p g l) (weigh_on t ph rows p g l r)
-  weigh_fine p g l Empty lo hi = weighed p g l lo hi
+  weigh_fine : (p g : ℕ) (l : Option ℕ) (r : Reading) → 1 ≤ p → p ≤ t.sample → Fine t w av (Weigh p g l) (placing t.labeled ph rows p (weighed r g l))
+  weigh_fine p g l Empty lo hi = written p g l lo hi
   weigh_fine p g l (Weighed g₀ l₀) lo hi = tt
   weigh_fine p g l (Opened g₀ l₀ tare) lo hi = tt
 
-  correct_fine : (p g : ℕ) (l : Option ℕ) (r : Reading) → 1 ≤ p → p ≤ t.sample → Fine t w av (Correct p g l) (correct_on t ph rows p g l r)
+  correct_fine : (p g : ℕ) (l : Option ℕ) (r : Reading) → 1 ≤ p → p ≤ t.sample → Fine t w av (Correct p g l) (placing t.labeled ph rows p (corrected r g l))
   correct_fine p g l Empty lo hi = tt
-  correct_fine p g l (Weighed g₀ l₀) lo hi = weighed p g l lo hi
-  correct_fine p g l (Opened g₀ l₀ tare) lo hi = weighed p g l lo hi
+  correct_fine p g l (Weighed g₀ l₀) lo hi = written p g l lo hi
+  correct_fine p g l (Opened g₀ l₀ tare) lo hi = written p g l lo hi
 
-  strike_fine : (p : ℕ) (r : Reading) → 1 ≤ p → p ≤ t.sample → Fine t w av (Strike p) (strike_on t ph rows p r)
+  strike_fine : (p : ℕ) (r : Reading) → 1 ≤ p → p ≤ t.sample → Fine t w av (Strike p) (placing t.labeled ph rows p (struck r))
   strike_fine p Empty lo hi = tt
   strike_fine p (Weighed g l) lo hi = emptied_at p lo hi
   strike_fine p (Opened g l tare) lo hi = emptied_at p lo hi
 
   tared_fine : (p tare g : ℕ) (l : Option ℕ) (b : Bool) → 1 ≤ p → p ≤ t.sample → g ≡ (w p).gross → l ≡ kept t.labeled (w p).label →
-      Fine t w av (Open p tare) (cond b (written t ph rows p (Opened g l tare)) (refused why.TareAboveGross))
+      Fine t w av (Open p tare) (placing t.labeled ph rows p (cond b (Ok (Opened g l tare)) (Err why.TareAboveGross)))
   tared_fine p tare g l true lo hi a b = opened_at p g l tare lo hi a b
   tared_fine p tare g l false lo hi a b = tt
 
-  open_fine : (p tare : ℕ) (r : Reading) → 1 ≤ p → p ≤ t.sample → Holds t.labeled r (w p) → Fine t w av (Open p tare) (open_on t ph rows p tare r)
+  open_fine : (p tare : ℕ) (r : Reading) → 1 ≤ p → p ≤ t.sample → Holds t.labeled r (w p) → Fine t w av (Open p tare) (placing t.labeled ph rows p (opened r tare))
   open_fine p tare Empty lo hi h = tt
   open_fine p tare (Weighed g l) lo hi h = tared_fine p tare g l (leb tare g) lo hi h.0 h.1
   open_fine p tare (Opened g l tare₀) lo hi h = tared_fine p tare g l (leb tare g) lo hi h.0 h.1
@@ -121,9 +121,9 @@ module _ (t : Terms) (ph : Phase) (rows : List Reading) (w : ℕ → Weighing) (
 
 settled_by : (a b d : Bool) (x : Phase) (e f h : Refusal) (ph : Phase) → cond a (cond b (cond d (Ok x) (Err e)) (Err f)) (Err h) ≡ Ok ph → x ≡ ph
 settled_by true true true x e f h ph q = cc
-settled_by true true false x e f h ph q = absurd (let z : ◌≡◌ {A = ℕ} 0 1 = cc in omega arith)
-settled_by true false d x e f h ph q = absurd (let z : ◌≡◌ {A = ℕ} 0 1 = cc in omega arith)
-settled_by false b d x e f h ph q = absurd (let z : ◌≡◌ {A = ℕ} 0 1 = cc in omega arith)
+settled_by true true false x e f h ph q = cc
+settled_by true false d x e f h ph q = cc
+settled_by false b d x e f h ph q = cc
 
 fine_if : (t : Terms) (w : ℕ → Weighing) (av : ℕ) (c : Call) (b : Bool) (o o' : Outcome) → (b ≡ true → Fine t w av c o) → (b ≡ false → Fine t w av c o') → Fine t w av c (cond b o o')
 fine_if t w av c true o o' h k = h refl

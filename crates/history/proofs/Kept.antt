@@ -33,7 +33,7 @@ module _ (t : Terms) (next : Phase → List Reading → Ran)
   by_close (Some why) q e = ih ph rows w av inv e
 
 pub run_sound : (t : Terms) (entries : List Entry) (ph : Phase) (rows : List Reading) (w : ℕ → Weighing) (av : ℕ) → Inv t ph rows w av → (run t entries ph rows).closed ≡ true → Sound t (run t entries ph rows) w av
-run_sound t [] ph rows w av inv e = absurd (let z : ◌≡◌ {A = ℕ} 0 1 = cc in omega arith)
+run_sound t [] ph rows w av inv e = cc
 run_sound t (entry.Call c ∷ es) ph rows w av inv e = by_call t (run t es) (run_sound t es) ph rows w av inv c (step t ph rows c) (step_fine t ph rows w av inv c) e
 run_sound t (entry.Close ∷ es) ph rows w av inv e = by_close t (run t es) (run_sound t es) ph rows w av inv (closing t ph rows) refl e
 

@@ -1,16 +1,16 @@
 -- Two sheets that share category, kind, lot size, division and labels have one plan and one rule.
-use Rattle.std.proofs.Common.{◌≡◌, ℕ, ◌*◌, ◌≤◌, Bool, true, false, cond, ltb, List, length, Ok, Err, Option, Result, sym, refl, ap, ◌∙◌, subst, arith}
+use Rattle.std.proofs.Common.{◌≡◌, ℕ, ◌*◌, ◌≤◌, Bool, true, false, cond, ltb, List, length, Ok, Err, Option, Result, sym, refl, ap, ◌∙◌, subst}
 use Rattle.std.proofs.lemmas.Bool.{ltb-false}
 use Rattle.categories.specs.declared.plan.Plan.{Plan}
 use Rattle.comparison.specs.Rises.{NoneLower}
 use Rattle.kinds.specs.Meaning.{Meaning}
 use Rattle.lots.specs.declared.lot.LotFault.{LotFault}
-use Rattle.lots.specs.declared.lot.LotFault.TheVariants.{OutOfRange, NotTaken}
 use Rattle.lots.specs.Lots.{in_range, suits, units, taken, planned}
 use Rattle.sheet.specs.declared.record.Record.{Record}
 use Rattle.sheet.specs.declared.refusal.Refusal.{Refusal}
 use Rattle.sheet.specs.declared.refusal.Refusal.TheVariants as why
 use Rattle.sheet.specs.Starts.{starting}
+use Rattle.sheet.proofs.Taken.{by_range}
 use Rattle.history.specs.Contest.{Category, Setup, terms_for, ran, start, Shares}
 use Rattle.history.specs.Memory.{label_at, errors_of}
 use Rattle.history.specs.Rule.{ClosedBy, Shared, FollowsFor}
@@ -19,18 +19,12 @@ use Rattle.history.proofs.Sheets.{two_sheets}
 
 -- what a start has asked
 start_test : (b : Bool) (places : ℕ) (p plan : Plan) → ltb places p.sample ≡ b → ◌≡◌ {A = Result Plan Refusal} (cond b (Err why.FewPlaces) (Ok p)) (Ok plan) → (p ≡ plan) × (plan.sample ≤ places)
-start_test true places p plan t q = absurd (let z : ◌≡◌ {A = ℕ} 0 1 = cc in omega arith)
+start_test true places p plan t q = cc
 start_test false places p plan t q = let same : p ≡ plan = cc in (same, subst (λ (x : Plan). x.sample ≤ places) same (ltb-false places p.sample t))
 
 start_by : (x : Result Plan LotFault) (places : ℕ) (plan : Plan) → starting x places ≡ Ok plan → (x ≡ Ok plan) × (plan.sample ≤ places)
 start_by (Ok p) places plan e = let h = start_test (ltb places p.sample) places p plan refl e in (ap Ok h.0, h.1)
-start_by (Err OutOfRange) places plan e = absurd (let z : ◌≡◌ {A = ℕ} 0 1 = cc in omega arith)
-start_by (Err NotTaken) places plan e = absurd (let z : ◌≡◌ {A = ℕ} 0 1 = cc in omega arith)
-
-planned_by : (ranged suited : Bool) (o : Result Plan LotFault) (plan : Plan) → cond ranged (cond suited o (Err NotTaken)) (Err OutOfRange) ≡ Ok plan → o ≡ Ok plan
-planned_by true true o plan e = e
-planned_by true false o plan e = absurd (let z : ◌≡◌ {A = ℕ} 0 1 = cc in omega arith)
-planned_by false suited o plan e = absurd (let z : ◌≡◌ {A = ℕ} 0 1 = cc in omega arith)
+start_by (Err fault) places plan e = cc
 
 module _ (s : Setup) (plan : Plan) (e : start s ≡ Ok plan) where
   pub start_plan : planned s.category s.kind s.lot ≡ Ok plan
@@ -40,7 +34,7 @@ module _ (s : Setup) (plan : Plan) (e : start s ≡ Ok plan) where
   start_long = (start_by (planned s.category s.kind s.lot) (length s.rows) plan e).1
 
   pub start_taken : taken (s.category s.lot.size s.kind.word (units s.lot.label s.lot.division)) ≡ Ok plan
-  start_taken = planned_by (in_range s.lot) (suits s.kind.word s.lot) _ plan start_plan
+  start_taken = (by_range (in_range s.lot) (suits s.kind.word s.lot) _ plan start_plan).1
 
 module _ (s r : Setup) (plan plan' : Plan) (e : start s ≡ Ok plan) (e' : start r ≡ Ok plan') (first second : List Event) (h : Shares s r first second (terms_for s plan) (terms_for r plan')) where
   abbrev asked : Category → Meaning → ℕ → ℕ → Option ℕ → Result Plan LotFault

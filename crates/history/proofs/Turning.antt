@@ -20,21 +20,6 @@ use Rattle.history.specs.declared.entry.Entry.TheVariants as entry
 use Rattle.history.specs.Runs.{Ran, stopped, after_call, after_close, turn, run}
 use Rattle.history.specs.Turns.{Moved, Turned, Runs}
 
-module _ {C K : Type 0} (t : Terms) (s s₁ : Sheet C K) (rows rows₁ : List Reading) (k : Kept s s₁) where
-  moved_ok : (o : outcome.Outcome) → outcome.Follows o s.phase rows (Ok tt) s₁.phase rows₁ → Moved o s rows s₁ None rows₁
-  moved_ok (outcome.taken ph rows₂) h = (k, h.1, refl, h.2)
-  moved_ok (outcome.refused e) h = absurd (let q = h.0 in let z : ◌≡◌ {A = ℕ} 0 1 = cc in omega arith)
-
-  moved_err : (o : outcome.Outcome) (e : Refusal) → outcome.Follows o s.phase rows (Err e) s₁.phase rows₁ → Moved o s rows s₁ (Some e) rows₁
-  moved_err (outcome.taken ph rows₂) e h = absurd (let q = h.0 in let z : ◌≡◌ {A = ℕ} 0 1 = cc in omega arith)
-  moved_err (outcome.refused e₁) e h = (k, h.1, ap Some (let q = h.0 in let same : e ≡ e₁ = cc in same), h.2)
-
-  pub turned_ok : (e : Entry) (c : Call) → e ≡ entry.Call c → outcome.Follows (step t s.phase rows c) s.phase rows (Ok tt) s₁.phase rows₁ → Turned t s rows e (Err (s₁, None)) rows₁
-  turned_ok e c is h = subst (λ (x : Entry). Turned t s rows x (Err (s₁, None)) rows₁) (sym is) (moved_ok (step t s.phase rows c) h)
-
-  pub turned_err : (e : Entry) (c : Call) (why : Refusal) → e ≡ entry.Call c → outcome.Follows (step t s.phase rows c) s.phase rows (Err why) s₁.phase rows₁ → Turned t s rows e (Err (s₁, Some why)) rows₁
-  turned_err e c why is h = subst (λ (x : Entry). Turned t s rows x (Err (s₁, Some why)) rows₁) (sym is) (moved_err (step t s.phase rows c) why h)
-
 -- two runs that end alike
 pub record Alike (r r' : Ran) : Type 0 where
   pub closed : r.closed ≡ r'.closed

@@ -23,16 +23,13 @@ pub fn turn<C: Category + Drop, K: Kind + Drop, P: Package>(
     ensures memory { SameMemory list.old.places list.new.places }
 {
     match entry {
-        Entry::Close => match sheet.close(list) {
-            Ok(record) => Ok(record),
-            Err((back, refusal)) => Err((back, Some(refusal))),
-        },
+        Entry::Close => sheet
+            .close(list)
+            .map_err(|(back, refusal)| (back, Some(refusal))),
         Entry::Call(call) => {
             let mut sheet = sheet;
-            match sheet.act(list, call) {
-                Ok(()) => Err((sheet, None)),
-                Err(refusal) => Err((sheet, Some(refusal))),
-            }
+            let refusal = sheet.act(list, call).err();
+            Err((sheet, refusal))
         }
     }
 }

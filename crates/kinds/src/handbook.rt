@@ -24,7 +24,8 @@ pub enum HandbookKind {
 impl TryFrom<&[u8]> for HandbookKind {
     type Error = UnknownKind;
 
-    ghost try_from_gives = { λ word r. MatchResult r (λ kind. kind_of word.now ≡ Some kind) (λ _. kind_of word.now ≡ None) };
+    ghost try_from_gives = { λ word r. MatchResult r
+        (λ kind. kind_of word.now ≡ Some kind) (λ _. kind_of word.now ≡ None) };
 
     fn try_from(word: &[u8]) -> Result<Self, UnknownKind> {
         match word {
@@ -80,10 +81,7 @@ impl Kind for HandbookKind {
     }
 
     fn is_weighed(&self) -> bool {
-        match self {
-            HandbookKind::Msi | HandbookKind::Mus => true,
-            HandbookKind::Lsi | HandbookKind::Cnt | HandbookKind::Len | HandbookKind::Are => false,
-        }
+        matches!(self, HandbookKind::Msi | HandbookKind::Mus)
     }
 
     fn mav(&self, label: Label) -> (u64, u16) {

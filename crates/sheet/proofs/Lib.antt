@@ -1,8 +1,8 @@
-pub mod Asking
 pub mod Errors
-pub mod Filling
+pub mod Places
 pub mod Questions
 pub mod Ranges
+pub mod Settled
 pub mod Soundness
 pub mod Taken
 pub mod Tares

@@ -1,18 +1,29 @@
 -- The questions put at closing, and the sample that is then decided.
-use Rattle.std.proofs.Common.{◌≡◌, ℕ, ◌-◌, ◌*◌, ◌<◌, ◌≤◌, Bool, true, false, cond, not, ◌&&◌, ◌||◌, eqb, ltb, List, length, take, drop, ℤ, is_some, Some, None, sym, refl, ap, ◌∙◌, subst}
+use Rattle.std.proofs.Common.{◌≡◌, ℕ, ◌*◌, ◌<◌, ◌≤◌, Bool, true, false, cond, not, ◌&&◌, ◌||◌, eqb, ltb, List, length, take, ℤ, is_some, Some, None, Ok, Err, Result, IsOk, sym, refl, ap, ◌∙◌, subst}
 use Rattle.std.proofs.lemmas.List.{length-map, length-take-le}
 use Rattle.std.proofs.lemmas.Bool.{cond-true, cond-false, lt-ltb, le-ltb, eq-eqb, or_from, not_from_true}
-use Rattle.decision.specs.Answer.{outside, ranged, refusal, Decided}
+use Rattle.std.specs.List.{list_all}
+use Rattle.decision.specs.Answer.{outside, ranged, refusal, Answers, Decided}
 use Rattle.decision.specs.declared.outcome.Decision.{Decision}
+use Rattle.decision.specs.declared.outcome.Fault.{Fault}
 use Rattle.decision.specs.declared.outcome.Fault.TheVariants.{Count, Mavs, Average}
 use Rattle.decision.specs.declared.rule.Rule.{Rule}
 use Rattle.packages.specs.declared.reading.Reading.{Reading}
 use Rattle.sheet.specs.declared.call.Phase.{Phase}
 use Rattle.sheet.specs.declared.call.Phase.TheVariants.{Unsettled, Settled}
 use Rattle.sheet.specs.declared.refusal.Refusal.TheVariants as why
-use Rattle.sheet.specs.Closing.{all_complete, errors, mavs, closing, closing_in, closing_settled}
+use Rattle.sheet.specs.Closing.{complete, all_complete, errors, mavs, closing, closing_in, closing_settled}
 use Rattle.sheet.specs.Terms.{Terms}
-use Rattle.sheet.proofs.Filling.{front}
+use Rattle.sheet.proofs.Weighed.{none_some}
+
+flipped : (a b : Bool) → a ≡ not b → b ≡ not a
+flipped a true e = ap not (sym e)
+flipped a false e = ap not (sym e)
+
+-- what the code asks of the sample that it is lent
+pub asked : (t : Terms) (b labeled none : Bool) (first rows : List Reading) → t.random ≡ not labeled → labeled ≡ not none → first ≡ take t.sample rows → b ≡ list_all (complete none) first → b ≡ all_complete t (take t.sample rows)
+asked t b labeled none first rows r n f e =
+    e ∙ ap (list_all (complete none)) f ∙ ap (λ (x : Bool). list_all (complete x) (take t.sample rows)) (flipped labeled none n ∙ sym r)
 
 module _ (t : Terms) (ph : Phase) (rows : List Reading) where
   pub few_places : length rows < t.sample → closing t ph rows ≡ Some why.FewPlaces
@@ -50,20 +61,26 @@ unrefused rule n m es e b some few factor allowed average none =
     (cond-false _ _ _ (or_from (ltb n 1) (ltb 48 n) (le-ltb n 1 some) (le-ltb 48 n few)) ∙ cond-false _ _ _ (not_from_true (eqb m n) (eq-eqb m n b)) ∙ ap (ranged rule n) none
     ∙ cond-false _ _ _ (le-ltb 18000 (rule.factor * n) factor) ∙ cond-false _ _ _ (le-ltb n rule.allowed allowed) ∙ average_asked rule.average n average)
 
--- the sample of a sheet, in the first places of two arrays
-module _ (t : Terms) (average : ℕ) (rows : List Reading) (es : List ℤ) (ms : List (ℕ × ℕ)) (ee : take t.sample es ≡ errors t average rows) (em : take t.sample ms ≡ mavs t rows) where
-  these : take (t.sample - 0) (drop 0 es) ≡ errors t average rows
-  these = front t.sample es ∙ ee
+-- the sample of a sheet that is sound, its errors in range
+pub accepts : (t : Terms) (average : ℕ) (rows : List Reading) → t.sample ≤ length rows → 1 ≤ t.sample → t.sample ≤ 48 → t.rule.factor * t.sample ≤ 18000 → t.rule.allowed ≤ t.sample → (t.rule.average ≡ true → 2 ≤ t.sample) →
+    outside (errors t average rows) ≡ None → refusal (length (mavs t rows)) t.rule (errors t average rows) ≡ None
+accepts t average rows h some few factor allowed av none =
+    let n = length-take-le t.sample rows h in
+    unrefused t.rule t.sample _ _ (length-map (take t.sample rows) _ ∙ n) (length-map (take t.sample rows) _ ∙ n) some few factor allowed av none
 
-  beside : take (t.sample - 0) (drop 0 ms) ≡ mavs t rows
-  beside = front t.sample ms ∙ em
+made : (division : ℕ) (ms : List (ℕ × ℕ)) (rule : Rule) (es : List ℤ) (r : Result Decision Fault) → refusal (length ms) rule es ≡ None → Answers division ms rule es r → IsOk r
+made division ms rule es (Ok d) none a = refl
+made division ms rule es (Err fault) none a = absurd (none_some _ _ none a)
 
-  pub accepts : t.sample ≤ length rows → 1 ≤ t.sample → t.sample ≤ 48 → t.rule.factor * t.sample ≤ 18000 → t.rule.allowed ≤ t.sample → (t.rule.average ≡ true → 2 ≤ t.sample) →
-      outside (errors t average rows) ≡ None → refusal (length (take (t.sample - 0) (drop 0 ms))) t.rule (take (t.sample - 0) (drop 0 es)) ≡ None
-  accepts h some few factor allowed av none =
-      let n = length-take-le t.sample rows h in
-      unrefused t.rule t.sample _ _ (ap length these ∙ length-map (take t.sample rows) _ ∙ n) (ap length beside ∙ length-map (take t.sample rows) _ ∙ n) some few factor allowed av
-      (ap outside these ∙ none)
+-- the decision over the errors and MAVs that the code passes on
+module _ (t : Terms) (average : ℕ) (rows : List Reading) (es : List ℤ) (ms : List (ℕ × ℕ)) (r : Result Decision Fault) (ee : es ≡ errors t average rows) (em : ms ≡ mavs t rows) (a : Answers t.division ms t.rule es r) where
+  pub decides : refusal (length (mavs t rows)) t.rule (errors t average rows) ≡ None → IsOk r
+  decides none =
+      let b = subst (λ (xs : List ℤ). Answers t.division ms t.rule xs r) ee a in
+      made t.division (mavs t rows) t.rule (errors t average rows) r none (subst (λ (ys : List (ℕ × ℕ)). Answers t.division ys t.rule (errors t average rows) r) em b)
 
-  pub decided_on : (d : Decision) → Decided t.division (take (t.sample - 0) (drop 0 ms)) t.rule (take (t.sample - 0) (drop 0 es)) d → Decided t.division (mavs t rows) t.rule (errors t average rows) d
-  decided_on d h = subst (λ (xs : List ℤ). Decided t.division (mavs t rows) t.rule xs d) these (subst (λ (ys : List (ℕ × ℕ)). Decided t.division ys t.rule (take (t.sample - 0) (drop 0 es)) d) beside h)
+  pub decided_on : (d : Decision) → r ≡ Ok d → Decided t.division (mavs t rows) t.rule (errors t average rows) d
+  decided_on d e =
+      let b = subst (λ (xs : List ℤ). Answers t.division ms t.rule xs r) ee a in
+      let c = subst (λ (ys : List (ℕ × ℕ)). Answers t.division ys t.rule (errors t average rows) r) em b in
+      (subst (λ (x : Result Decision Fault). Answers t.division (mavs t rows) t.rule (errors t average rows) x) e c).1

@@ -20,7 +20,7 @@ pub record Facts (lot : Lot) (plan : Plan) : Type 0 where
 
 average_two : (b : Bool) (n : ℕ) → (not b || leb 2 n) ≡ true → b ≡ true → 2 ≤ n
 average_two true n h e = leb-true 2 n h
-average_two false n h e = absurd (let z : ◌≡◌ {A = ℕ} 0 1 = cc in omega arith)
+average_two false n h e = cc
 
 pub facts : (lot : Lot) (plan : Plan) → sound lot plan ≡ true → Facts lot plan
 facts lot plan s =

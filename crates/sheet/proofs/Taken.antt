@@ -1,6 +1,6 @@
 -- A lot that a category takes is sound.
-use Rattle.std.proofs.Common.{◌≡◌, ℕ, ◌≤◌, Bool, true, false, cond, not, ◌&&◌, ◌||◌, leb, List, Some, None, Ok, Err, Option, Result, sym, refl, subst, arith}
-use Rattle.std.proofs.lemmas.Bool.{le-leb, le-ltb, cond-false}
+use Rattle.std.proofs.Common.{◌≡◌, ℕ, ◌≤◌, Bool, true, false, cond, not, ◌&&◌, ◌||◌, leb, List, Some, None, Ok, Err, Option, Result, refl, subst}
+use Rattle.std.proofs.lemmas.Bool.{le-leb}
 use Rattle.categories.specs.declared.plan.Plan.{Plan}
 use Rattle.categories.specs.Meaning.{Sampling, Sound, InBounds}
 use Rattle.kinds.specs.Meaning.{Meaning}
@@ -8,12 +8,6 @@ use Rattle.lots.specs.Lots.{in_range, suits, taken, units, planned}
 use Rattle.lots.specs.declared.lot.Lot.{Lot}
 use Rattle.lots.specs.declared.lot.LotFault.{LotFault}
 use Rattle.lots.specs.declared.lot.LotFault.TheVariants.{OutOfRange, NotTaken}
-use Rattle.packages.specs.declared.reading.Reading.{Reading}
-use Rattle.packages.specs.Readings.{emptied}
-use Rattle.sheet.specs.declared.call.Phase.TheVariants.{Unsettled}
-use Rattle.sheet.specs.declared.refusal.Refusal.{Refusal}
-use Rattle.sheet.specs.declared.sheet.Sheet.{Sheet}
-use Rattle.sheet.specs.Starts.{starting, Starts}
 use Rattle.sheet.specs.Sound.{sound, sound_plan}
 
 and_true : (a b : Bool) → a ≡ true → b ≡ true → (a && b) ≡ true
@@ -29,23 +23,17 @@ sound_of size s h =
     (and_true _ _ (le-leb _ _ h.factor) (and_true _ _ (le-leb _ _ h.allowed) (le-leb _ _ h.initial)))))
 
 taken_sound : (size : ℕ) (o : Option Sampling) (plan : Plan) → InBounds size o → taken o ≡ Ok plan → sound_plan plan ≡ true
-taken_sound size None plan h e = absurd (let z : ◌≡◌ {A = ℕ} 0 1 = cc in omega arith)
+taken_sound size None plan h e = cc
 taken_sound size (Some s) plan h e = let same : s.plan ≡ plan = cc in subst (λ (p : Plan). sound_plan p ≡ true) same (sound_of size s h)
 
-by_range : (ranged suited : Bool) (o : Result Plan LotFault) (plan : Plan) → cond ranged (cond suited o (Err NotTaken)) (Err OutOfRange) ≡ Ok plan → (ranged ≡ true) × (o ≡ Ok plan)
+-- what a plan has asked
+pub by_range : (ranged suited : Bool) (o : Result Plan LotFault) (plan : Plan) → cond ranged (cond suited o (Err NotTaken)) (Err OutOfRange) ≡ Ok plan → (ranged ≡ true) × (o ≡ Ok plan)
 by_range true true o plan e = (refl, e)
-by_range true false o plan e = absurd (let z : ◌≡◌ {A = ℕ} 0 1 = cc in omega arith)
-by_range false suited o plan e = absurd (let z : ◌≡◌ {A = ℕ} 0 1 = cc in omega arith)
+by_range true false o plan e = cc
+by_range false suited o plan e = cc
 
 pub planned_sound : (category : ℕ → List ℕ → ℕ → Option Sampling) (kind : Meaning) (lot : Lot) (plan : Plan) →
     ((size : ℕ) (word : List ℕ) (label : ℕ) → InBounds size (category size word label)) → planned category kind lot ≡ Ok plan → sound lot plan ≡ true
 planned_sound category kind lot plan law e =
     let b = by_range (in_range lot) (suits kind.word lot) (taken (category lot.size kind.word (units lot.label lot.division))) plan e in
     and_true _ _ b.0 (taken_sound lot.size (category lot.size kind.word (units lot.label lot.division)) plan (law _ _ _) b.1)
-
-pub started : (r : Result Plan LotFault) (plan : Plan) (places : ℕ) → Ok plan ≡ r → plan.sample ≤ places → starting r places ≡ Ok plan
-started r plan places e h = subst (λ (x : Result Plan LotFault). starting x places ≡ Ok plan) e (cond-false _ _ _ (le-ltb places plan.sample h))
-
-pub new_sheet : {C K : Type 0} (category : C) (kind : K) (lot : Lot) (plan : Plan) (x : Result Plan Refusal) (s : Sheet C K) (rows rows₁ : List Reading) → x ≡ Ok plan →
-    s.category ≡ category → s.kind ≡ kind → s.lot ≡ lot → s.plan ≡ plan → s.phase ≡ Unsettled → rows₁ ≡ emptied plan.sample rows → Starts category kind lot x rows (Ok s) rows₁
-new_sheet category kind lot plan x s rows rows₁ e a b d f h k = subst (λ (y : Result Plan Refusal). Starts category kind lot y rows (Ok s) rows₁) (sym e) (a, b, d, f, h, k)

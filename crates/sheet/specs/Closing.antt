@@ -1,5 +1,6 @@
 -- How a sheet closes.
-use Rattle.std.specs.Prelude.{◌≡◌, ℕ, ◌*◌, ◌/◌, Bool, true, false, cond, ◌&&◌, List, [], ◌∷◌, map, length, take, ℤ, pos, ◌+ℤ◌, ◌-ℤ◌, is_some, Some, None, Ok, Err, Option, Result, nat_lt}
+use Rattle.std.specs.Prelude.{◌≡◌, ℕ, ◌*◌, ◌/◌, Bool, false, cond, List, map, length, take, ℤ, pos, ◌+ℤ◌, ◌-ℤ◌, is_some, Some, None, Ok, Err, Option, Result, nat_lt}
+use Rattle.std.specs.List.{list_all}
 use Rattle.decision.specs.Answer.{Decided, outside}
 use Rattle.lots.specs.declared.lot.Lot.{Lot}
 use Rattle.packages.specs.declared.reading.Reading.{Reading}
@@ -16,14 +17,13 @@ use Rattle.sheet.specs.Tare.{label_of, label_by}
 use Rattle.sheet.specs.Terms.{Terms}
 
 -- weighed, with the label that belongs there
-abbrev pub complete : Terms → Reading → Bool
-complete t Empty = false
-complete t (Weighed g l) = label_fits t.random l
-complete t (Opened g l tare) = label_fits t.random l
+abbrev pub complete : Bool → Reading → Bool
+complete random Empty = false
+complete random (Weighed g l) = label_fits random l
+complete random (Opened g l tare) = label_fits random l
 
 abbrev pub all_complete : Terms → List Reading → Bool
-all_complete t [] = true
-all_complete t (r ∷ rs) = complete t r && all_complete t rs
+all_complete t rows = list_all (complete t.random) rows
 
 -- a package error: gross less label less average tare, and the moisture that is allowed for, fraction dropped
 abbrev pub package_error : Terms → ℕ → Reading → ℤ
@@ -37,8 +37,11 @@ lot_error lot average r = pos (gross_of r) -ℤ pos (label_by lot.label r) -ℤ 
 abbrev pub errors : Terms → ℕ → List Reading → List ℤ
 errors t average rows = map (package_error t average) (take t.sample rows)
 
+abbrev pub package_mavs : Terms → List Reading → List (ℕ × ℕ)
+package_mavs t rows = map (λ r. t.mav (label_of t r)) rows
+
 abbrev pub mavs : Terms → List Reading → List (ℕ × ℕ)
-mavs t rows = map (λ r. t.mav (label_of t r)) (take t.sample rows)
+mavs t rows = package_mavs t (take t.sample rows)
 
 -- why closing is refused, by the questions in their order
 abbrev pub closing_settled : Terms → ℕ → List Reading → Option Refusal

@@ -1,10 +1,10 @@
 -- How the tare is settled.
-use Rattle.std.specs.Prelude.{ℕ, ◌+◌, ◌*◌, ◌/◌, Bool, true, false, cond, not, ◌&&◌, List, [], ◌∷◌, map, take, ℤ, pos, ◌-ℤ◌, is_some, Ok, Err, fold, Option, Result, ◌==◌, nat_le, unsigned_abs}
+use Rattle.std.specs.Prelude.{◌≡◌, ℕ, ◌^◌, ◌≤◌, None, Some, length, ◌*◌, ◌/◌, Bool, cond, not, List, [], ◌∷◌, map, take, ℤ, pos, ◌-ℤ◌, is_some, Ok, Err, fold, Option, Result, ◌==◌, nat_le, unsigned_abs}
+use Rattle.std.specs.List.{list_all, sum_by}
 use Rattle.std.specs.Int.{int_max, int_min}
 use Rattle.std.specs.Option.{unwrap_or}
 use Rattle.packages.specs.declared.reading.Reading.{Reading}
-use Rattle.packages.specs.declared.reading.Reading.TheVariants.{Empty, Weighed, Opened}
-use Rattle.packages.specs.Readings.{gross_of, tare_of, own_label}
+use Rattle.packages.specs.Readings.{gross_of, tare_of, held_tare, own_label}
 use Rattle.rounding.specs.Nearest.{nearest}
 use Rattle.sheet.specs.declared.call.Phase.{Phase}
 use Rattle.sheet.specs.declared.call.Phase.TheVariants as phase
@@ -31,13 +31,16 @@ range [] = 0
 range (x ∷ xs) = unsigned_abs (fold int_max x xs -ℤ fold int_min x xs)
 
 abbrev pub is_opened : Reading → Bool
-is_opened Empty = false
-is_opened (Weighed g l) = false
-is_opened (Opened g l tare) = true
+is_opened r = is_some (held_tare r)
 
 abbrev pub all_opened : List Reading → Bool
-all_opened [] = true
-all_opened (r ∷ rs) = is_opened r && all_opened rs
+all_opened rows = list_all is_opened rows
+
+-- the range of the net errors by the sheet's label, and that of the tares; none of no place
+abbrev pub Ranges : Option ℕ → List Reading → Option (ℕ × ℕ) → Type 0
+Ranges label rows None = length rows ≡ 0
+Ranges label rows (Some ranges) =
+    (1 ≤ length rows) × (ranges.0 ≡ range (map (λ r. pos (gross_of r) -ℤ pos (tare_of r) -ℤ pos (label_by label r)) rows)) × (ranges.1 ≡ range (map (λ r. pos (tare_of r)) rows)) × (ranges.0 ≤ 2 ^ 34)
 
 -- the range of the package errors of the initial tare sample, and of its tares
 abbrev pub error_range : Terms → List Reading → ℕ
@@ -53,8 +56,7 @@ total_for t rows =
     (cond (tare_range t rows == 0) t.initial (t.total (100 * error_range t rows / tare_range t rows)))
 
 abbrev pub tare_sum : List Reading → ℕ
-tare_sum [] = 0
-tare_sum (r ∷ rs) = tare_of r + tare_sum rs
+tare_sum rows = sum_by tare_of rows
 
 -- to the nearest division, a half to the even one
 abbrev pub average_of : ℕ → List Reading → ℕ

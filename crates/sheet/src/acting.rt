@@ -5,7 +5,7 @@ ghost use Rattle.sheet.specs.Steps.{Follows};
 ghost use Rattle.sheet.specs.Views.{rows_of, terms_of, Kept};
 
 use crate::call::{Call, Phase};
-use crate::placing::{correct, is_label, open, strike, weigh};
+use crate::placing::{corrected, held_at, is_label, opened, place_next, struck, weighed};
 use crate::refusal::Refusal;
 use crate::sheet::Sheet;
 use categories::category::Category;
@@ -29,10 +29,7 @@ fn place_of(call: Call) -> Option<u32>
 fn is_placed(sample: u32, place: Option<u32>) -> bool
     ensures { result ≡ placed_by sample place }
 {
-    match place {
-        Some(place) => 1 <= place && place <= sample,
-        None => true,
-    }
+    place.is_none_or(|place| (1..=sample).contains(&place))
 }
 
 // Weighing and correcting give a weight up to 999999, and a label where one belongs.
@@ -49,8 +46,8 @@ fn is_weighable(random: bool, call: Call) -> bool
 impl<C: Category, K: Kind> Sheet<C, K> {
     // The call by the sheet's phase, once its place, weight and label are asked.
     fn perform<P: Package>(&mut self, list: &mut PackageList<P>, call: Call) -> Result<(), Refusal>
-        requires sample_in_bounds { self.old.plan.sample ≤ length list.old.places.now }
-        requires call_value { placed_by self.old.plan.sample (place_of call) ≡ true }
+        requires enough_places { self.old.plan.sample ≤ length list.old.places.now }
+        requires placed { placed_by self.old.plan.sample (place_of call) ≡ true }
         ensures step { Follows (thawed (terms_of C.Category K.Kind P.Package self.old) self.old.phase (rows_of P.Package list.old) call) self.old.phase (rows_of P.Package list.old) result self.new.phase (rows_of P.Package list.new) }
         ensures kept { Kept self.old self.new }
         ensures memory { SameMemory list.old.places list.new.places }
@@ -70,7 +67,10 @@ impl<C: Category, K: Kind> Sheet<C, K> {
                     gross,
                     label,
                 },
-            ) => weigh(list, place, gross, label),
+            ) => {
+                let next = weighed(held_at(list, place), gross, label);
+                place_next(list, place, next)
+            }
             (
                 _,
                 Call::Correct {
@@ -78,9 +78,18 @@ impl<C: Category, K: Kind> Sheet<C, K> {
                     gross,
                     label,
                 },
-            ) => correct(list, place, gross, label),
-            (_, Call::Strike { place }) => strike(list, place),
-            (_, Call::Open { place, tare }) => open(list, place, tare),
+            ) => {
+                let next = corrected(held_at(list, place), gross, label);
+                place_next(list, place, next)
+            }
+            (_, Call::Strike { place }) => {
+                let next = struck(held_at(list, place));
+                place_next(list, place, next)
+            }
+            (_, Call::Open { place, tare }) => {
+                let next = opened(held_at(list, place), tare);
+                place_next(list, place, next)
+            }
             (Phase::Unsettled, Call::Settle) => {
                 self.phase = self.settling(list)?;
                 Ok(())

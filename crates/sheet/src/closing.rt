@@ -1,7 +1,7 @@
-ghost use Rattle.std.specs.Prelude.{◌≡◌, ◌≤◌, true, length, take, is_some, None, MatchOption};
+ghost use Rattle.std.specs.Prelude.{◌≡◌, ◌≤◌, true, map, length, is_some, None, MatchOption, nat_le, unsigned_abs};
+ghost use Rattle.std.specs.List.{list_all};
 ghost use Rattle.decision.specs.Answer.{outside};
-ghost use Rattle.packages.specs.declared.reading.Reading.TheVariants.{Empty};
-ghost use Rattle.sheet.specs.Closing.{all_complete, lot_error, errors as errors_of, mavs as mavs_of, Judges, Closes};
+ghost use Rattle.sheet.specs.Closing.{complete as complete_by, lot_error, package_mavs, Judges, Closes};
 ghost use Rattle.sheet.specs.Tare.{label_by};
 ghost use Rattle.sheet.specs.Views.{rows_of, terms_of};
 
@@ -9,8 +9,8 @@ use crate::call::Phase;
 use crate::placing::is_label;
 use crate::record::Record;
 use crate::refusal::Refusal;
-use crate::settling::gross_of;
 use crate::sheet::Sheet;
+use arrayvec::ArrayVec;
 use categories::category::Category;
 use decision::deciding::decide;
 use kinds::kind::Kind;
@@ -31,60 +31,63 @@ pub fn label_of(sheet: Option<u32>, reading: Reading) -> u32
 pub fn package_error(lot: Lot, average: u32, reading: Reading) -> i64
     ensures { result ≡ lot_error lot average reading }
 {
+    let gross = reading.gross().unwrap_or(0);
     let label = label_of(lot.label, reading);
     let moisture = u64::from(label) * u64::from(lot.allowance) / 1_000;
-    i64::from(gross_of(reading)) - i64::from(label) - i64::from(average) + moisture as i64
+    i64::from(gross) - i64::from(label) - i64::from(average) + moisture as i64
+}
+
+// Weighed, with the label that belongs there.
+fn is_complete<P: Package>(random: bool, held: &P) -> bool
+    ensures { result ≡ complete_by random (P.Package.reading held.now) }
+{
+    match held.read() {
+        Reading::Empty => false,
+        Reading::Weighed { label, .. } | Reading::Opened { label, .. } => is_label(random, label),
+    }
+}
+
+fn all_complete<P: Package>(random: bool, sample: &[P]) -> bool
+    ensures { result ≡ list_all (complete_by random) (map P.Package.reading sample.now) }
+{
+    sample.iter().all(|held| is_complete(random, held))
+}
+
+fn is_in_range(error: i64) -> bool
+    ensures { result ≡ nat_le (unsigned_abs error) 8000 }
+{
+    (-8_000..=8_000).contains(&error)
+}
+
+// The package errors of the sample; none where one is not from -8000 to 8000.
+fn errors<P: Package>(lot: Lot, average: u32, sample: &[P]) -> Option<ArrayVec<i32, 48>>
+    requires { length sample.now ≤ 48 }
+    ensures { let errors = map (lot_error lot average) (map P.Package.reading sample.now) in
+        MatchOption result (is_some (outside errors) ≡ true) (λ found. (found.items ≡ errors) × (outside errors ≡ None)) }
+{
+    let mut errors = ArrayVec::new();
+    for held in sample {
+        let error = package_error(lot, average, held.read());
+        if !is_in_range(error) {
+            return None;
+        }
+        errors.push(error as i32);
+    }
+    Some(errors)
 }
 
 impl<C: Category, K: Kind> Sheet<C, K> {
-    // All packages of the sample are weighed, with the labels that belong there.
-    fn is_complete<P: Package>(&self, list: &PackageList<P>) -> bool
-        requires { self.now.plan.sample ≤ length list.now.places.now }
-        ensures { result ≡ all_complete (terms_of C.Category K.Kind P.Package self.now) (take self.now.plan.sample (rows_of P.Package list.now)) }
-    {
-        let random = self.lot.label.is_none();
-        for i in 0..self.plan.sample as usize {
-            let complete = match list.at(i) {
-                Reading::Empty => false,
-                Reading::Weighed { label, .. } | Reading::Opened { label, .. } => is_label(
-                    random, label,
-                ),
-            };
-            if !complete {
-                return false;
-            }
-        }
-        true
-    }
-
-    // The package errors of the sample; none where one is not from -8000 to 8000.
-    fn errors<P: Package>(&self, list: &PackageList<P>, average: u32) -> Option<[i32; 48]>
-        requires { self.now.plan.sample ≤ length list.now.places.now }
-        ensures { MatchOption result (is_some (outside (errors_of (terms_of C.Category K.Kind P.Package self.now) average (rows_of P.Package list.now))) ≡ true) (λ a. (take self.now.plan.sample a ≡ errors_of (terms_of C.Category K.Kind P.Package self.now) average (rows_of P.Package list.now)) × (outside (errors_of (terms_of C.Category K.Kind P.Package self.now) average (rows_of P.Package list.now)) ≡ None)) }
-    {
-        let mut errors = [0; 48];
-        for i in 0..self.plan.sample as usize {
-            let error = package_error(self.lot, average, list.at(i));
-            if error < -8_000 || 8_000 < error {
-                return None;
-            }
-            errors[i] = error as i32;
-        }
-        Some(errors)
-    }
-
     // The MAV of each package of the sample.
-    fn mavs<P: Package>(&self, list: &PackageList<P>) -> [(u64, u16); 48]
-        requires sample_in_bounds { self.now.plan.sample ≤ length list.now.places.now }
-        requires list_value { all_complete (terms_of C.Category K.Kind P.Package self.now) (take self.now.plan.sample (rows_of P.Package list.now)) ≡ true }
-        ensures { take self.now.plan.sample result ≡ mavs_of (terms_of C.Category K.Kind P.Package self.now) (rows_of P.Package list.now) }
+    fn mavs<P: Package>(&self, sample: &[P]) -> ArrayVec<(u64, u16), 48>
+        requires few { length sample.now ≤ 48 }
+        requires complete { list_all (complete_by (terms_of C.Category K.Kind P.Package self.now).random) (map P.Package.reading sample.now) ≡ true }
+        ensures { result.items ≡ package_mavs (terms_of C.Category K.Kind P.Package self.now) (map P.Package.reading sample.now) }
     {
-        let mut mavs = [(0, 1); 48];
-        for i in 0..self.plan.sample as usize {
-            let label = label_of(self.lot.label, list.at(i));
-            if let Some(mav) = package_mav(&self.kind, self.lot.division, label) {
-                mavs[i] = mav;
-            }
+        let mut mavs = ArrayVec::new();
+        for held in sample {
+            let label = label_of(self.lot.label, held.read());
+            let mav = package_mav(&self.kind, self.lot.division, label).unwrap();
+            mavs.push(mav);
         }
         mavs
     }
@@ -93,35 +96,27 @@ impl<C: Category, K: Kind> Sheet<C, K> {
     fn judged<P: Package>(&self, list: &PackageList<P>) -> Result<Record, Refusal>
         ensures { Judges (terms_of C.Category K.Kind P.Package self.now) self.now.phase (rows_of P.Package list.now) result }
     {
-        let sample = self.plan.sample as usize;
-        if list.len() < sample {
+        let Some(sample) = list.first(self.plan.sample as usize) else {
             return Err(Refusal::FewPlaces);
-        }
+        };
         let Phase::Settled { total, average } = self.phase else {
             return Err(Refusal::Unsettled);
         };
-        if !self.is_complete(list) {
+        if !all_complete(self.lot.label.is_none(), sample) {
             return Err(Refusal::Unweighed);
         }
-        let Some(errors) = self.errors(list, average) else {
+        let Some(errors) = errors(self.lot, average, sample) else {
             return Err(Refusal::ErrorRange);
         };
-        let mavs = self.mavs(list);
-        match decide(
-            &errors[0..sample],
-            &mavs[0..sample],
-            self.lot.division,
-            self.plan.rule,
-        ) {
-            Ok(decision) => Ok(Record {
-                tare_total: total,
-                average_tare: average,
-                rule: self.plan.rule,
-                decision,
-            }),
-            // does not happen, since the sheet is sound and the errors are in range
-            Err(_) => Err(Refusal::ErrorRange),
-        }
+        let mavs = self.mavs(sample);
+        // a sound sheet fails no question of the decision once its errors are in range
+        let decision = decide(&errors, &mavs, self.lot.division, self.plan.rule).unwrap();
+        Ok(Record {
+            tare_total: total,
+            average_tare: average,
+            rule: self.plan.rule,
+            decision,
+        })
     }
 }
 

@@ -1,9 +1,6 @@
-ghost use Rattle.std.specs.Prelude.{◌≡◌, ◌-◌, ◌≤◌, length, slice_index_or};
-ghost use Rattle.packages.specs.declared.reading.Reading.TheVariants.{Empty};
+ghost use Rattle.std.specs.Prelude.{◌≡◌, ◌≤◌};
 ghost use Rattle.packages.specs.Memory.{SameMemory};
-ghost use Rattle.sheet.specs.declared.call.Phase.{Phase};
-ghost use Rattle.sheet.specs.Steps.{Follows, label_fits, weigh_on, correct_on, strike_on, open_on};
-ghost use Rattle.sheet.specs.Terms.{Terms};
+ghost use Rattle.sheet.specs.Steps.{label_fits, weighed as weighed_by, corrected as corrected_by, struck as struck_by, opened as opened_by, held_at as held_by, Places};
 ghost use Rattle.sheet.specs.Views.{rows_of};
 
 use crate::refusal::Refusal;
@@ -16,88 +13,70 @@ pub(crate) fn is_label(random: bool, label: Option<u32>) -> bool
     ensures { result ≡ label_fits random label }
 {
     match label {
-        Some(label) => random && 1 <= label && label <= 999_999,
+        Some(label) => random && (1..=999_999).contains(&label),
         None => !random,
     }
 }
 
 // Weighing fills an empty place.
-pub(crate) fn weigh<P: Package>(
-    list: &mut PackageList<P>,
-    place: u32,
-    gross: u32,
-    label: Option<u32>,
-) -> Result<(), Refusal>
-    requires { 1 ≤ place }
-    ensures step { (t : Terms) (ph : Phase) → t.labeled ≡ P.Package.labeled → Follows (weigh_on t ph (rows_of P.Package list.old) place gross label (slice_index_or (rows_of P.Package list.old) (place - 1) Empty)) ph (rows_of P.Package list.old) result ph (rows_of P.Package list.new) }
-    ensures memory { SameMemory list.old.places list.new.places }
+pub(crate) fn weighed(held: Reading, gross: u32, label: Option<u32>) -> Result<Reading, Refusal>
+    ensures { result ≡ weighed_by held gross label }
 {
-    let i = place as usize - 1;
-    match list.at(i) {
-        Reading::Empty => {
-            list.put(i, Reading::Weighed { gross, label });
-            Ok(())
-        }
+    match held {
+        Reading::Empty => Ok(Reading::Weighed { gross, label }),
         _ => Err(Refusal::Unfit),
     }
 }
 
 // Correcting replaces gross and label, and drops the tare.
-pub(crate) fn correct<P: Package>(
-    list: &mut PackageList<P>,
-    place: u32,
-    gross: u32,
-    label: Option<u32>,
-) -> Result<(), Refusal>
-    requires { 1 ≤ place }
-    ensures step { (t : Terms) (ph : Phase) → t.labeled ≡ P.Package.labeled → Follows (correct_on t ph (rows_of P.Package list.old) place gross label (slice_index_or (rows_of P.Package list.old) (place - 1) Empty)) ph (rows_of P.Package list.old) result ph (rows_of P.Package list.new) }
-    ensures memory { SameMemory list.old.places list.new.places }
+pub(crate) fn corrected(held: Reading, gross: u32, label: Option<u32>) -> Result<Reading, Refusal>
+    ensures { result ≡ corrected_by held gross label }
 {
-    let i = place as usize - 1;
-    match list.at(i) {
+    match held {
         Reading::Empty => Err(Refusal::Unfit),
-        _ => {
-            let corrected = Reading::Weighed { gross, label };
-            list.put(i, corrected);
-            Ok(())
-        }
+        _ => Ok(Reading::Weighed { gross, label }),
     }
 }
 
 // Striking empties a place.
-pub(crate) fn strike<P: Package>(list: &mut PackageList<P>, place: u32) -> Result<(), Refusal>
-    requires { 1 ≤ place }
-    ensures step { (t : Terms) (ph : Phase) → t.labeled ≡ P.Package.labeled → Follows (strike_on t ph (rows_of P.Package list.old) place (slice_index_or (rows_of P.Package list.old) (place - 1) Empty)) ph (rows_of P.Package list.old) result ph (rows_of P.Package list.new) }
-    ensures memory { SameMemory list.old.places list.new.places }
+pub(crate) fn struck(held: Reading) -> Result<Reading, Refusal>
+    ensures { result ≡ struck_by held }
 {
-    let i = place as usize - 1;
-    match list.at(i) {
+    match held {
         Reading::Empty => Err(Refusal::Unfit),
-        _ => {
-            list.put(i, Reading::Empty);
-            Ok(())
-        }
+        _ => Ok(Reading::Empty),
     }
 }
 
 // Opening records the tare of a weighed package, replacing an earlier one.
-pub(crate) fn open<P: Package>(
-    list: &mut PackageList<P>,
-    place: u32,
-    tare: u32,
-) -> Result<(), Refusal>
-    requires { 1 ≤ place }
-    ensures step { (t : Terms) (ph : Phase) → t.labeled ≡ P.Package.labeled → Follows (open_on t ph (rows_of P.Package list.old) place tare (slice_index_or (rows_of P.Package list.old) (place - 1) Empty)) ph (rows_of P.Package list.old) result ph (rows_of P.Package list.new) }
-    ensures memory { SameMemory list.old.places list.new.places }
+pub(crate) fn opened(held: Reading, tare: u32) -> Result<Reading, Refusal>
+    ensures { result ≡ opened_by held tare }
 {
-    let i = place as usize - 1;
-    let (gross, label) = match list.at(i) {
-        Reading::Empty => return Err(Refusal::Unfit),
-        Reading::Weighed { gross, label } | Reading::Opened { gross, label, .. } => (gross, label),
-    };
+    let gross = held.gross().ok_or(Refusal::Unfit)?;
     if tare > gross {
         return Err(Refusal::TareAboveGross);
     }
-    list.put(i, Reading::Opened { gross, label, tare });
+    let label = held.label();
+    Ok(Reading::Opened { gross, label, tare })
+}
+
+pub(crate) fn held_at<P: Package>(list: &PackageList<P>, place: u32) -> Reading
+    requires { 1 ≤ place }
+    ensures { result ≡ held_by (rows_of P.Package list.now) place }
+{
+    list.at(place as usize - 1)
+}
+
+// Writes what a call made of the place, unless it is refused.
+pub(crate) fn place_next<P: Package>(
+    list: &mut PackageList<P>,
+    place: u32,
+    next: Result<Reading, Refusal>,
+) -> Result<(), Refusal>
+    requires { 1 ≤ place }
+    ensures places { Places P.Package.labeled (rows_of P.Package list.old) place next result (rows_of P.Package list.new) }
+    ensures memory { SameMemory list.old.places list.new.places }
+{
+    list.put(place as usize - 1, next?);
     Ok(())
 }

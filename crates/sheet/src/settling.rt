@@ -1,7 +1,7 @@
-ghost use Rattle.std.specs.Prelude.{◌≡◌, ◌-◌, ◌*◌, ◌^◌, ◌≤◌, map, length, take, pos, ◌-ℤ◌, if◌then◌else◌, unsigned_abs};
+ghost use Rattle.std.specs.Prelude.{◌≡◌, ◌-◌, ◌*◌, ◌^◌, ◌≤◌, map, length, pos, ◌-ℤ◌, MatchOption, unsigned_abs};
 ghost use Rattle.std.specs.Int.{int_max, int_min};
 ghost use Rattle.packages.specs.Readings.{gross_of, tare_of};
-ghost use Rattle.sheet.specs.Tare.{label_by, range as range_of, all_opened, total_for, tare_sum, average_of, settling as settling_by};
+ghost use Rattle.sheet.specs.Tare.{label_by, is_opened, all_opened, total_for, tare_sum, average_of, Ranges, settling as settling_by};
 ghost use Rattle.sheet.specs.Views.{rows_of, terms_of};
 
 use crate::call::Phase;
@@ -15,55 +15,43 @@ use packages::package::Package;
 use packages::reading::Reading;
 use rounding::nearest;
 
-pub(crate) fn gross_of(reading: Reading) -> u32
-    ensures { result ≡ gross_of reading }
+fn is_opened<P: Package>(held: &P) -> bool
+    ensures { result ≡ is_opened (P.Package.reading held.now) }
 {
-    match reading {
-        Reading::Empty => 0,
-        Reading::Weighed { gross, .. } | Reading::Opened { gross, .. } => gross,
-    }
+    held.read().tare().is_some()
+}
+
+fn all_opened<P: Package>(places: &[P]) -> bool
+    ensures { result ≡ all_opened (map P.Package.reading places.now) }
+{
+    places.iter().all(|held| is_opened(held))
 }
 
 fn tare_of(reading: Reading) -> u32
     ensures { result ≡ tare_of reading }
 {
-    match reading {
-        Reading::Empty | Reading::Weighed { .. } => 0,
-        Reading::Opened { tare, .. } => tare,
-    }
+    reading.tare().unwrap_or(0)
 }
 
-fn all_opened<P: Package>(list: &PackageList<P>, count: usize) -> bool
-    requires { count ≤ length list.now.places.now }
-    ensures { result ≡ all_opened (take count (rows_of P.Package list.now)) }
-{
-    for i in 0..count {
-        let Reading::Opened { .. } = list.at(i) else {
-            return false;
-        };
-    }
-    true
-}
-
-// The tares of the first places together.
-fn tare_sum<P: Package>(list: &PackageList<P>, count: usize) -> u64
-    requires { (count ≤ length list.now.places.now) × (count ≤ 48) }
-    ensures is { result ≡ tare_sum (take count (rows_of P.Package list.now)) }
-    ensures bound { result ≤ (2 ^ 32 - 1) * count }
+// The tares of some places together.
+fn tare_sum<P: Package>(places: &[P]) -> u64
+    requires { length places.now ≤ 48 }
+    ensures is { result ≡ tare_sum (map P.Package.reading places.now) }
+    ensures bound { result ≤ (2 ^ 32 - 1) * length places.now }
 {
     let mut sum = 0;
-    for i in 0..count {
-        sum += u64::from(tare_of(list.at(i)));
+    for held in places {
+        sum += u64::from(tare_of(held.read()));
     }
     sum
 }
 
-// The average tare of the first places, to the nearest division.
-fn average_of<P: Package>(list: &PackageList<P>, total: u32) -> u32
-    requires { (total ≤ length list.now.places.now) × (total ≤ 48) }
-    ensures { result ≡ average_of total (rows_of P.Package list.now) }
+// The average tare of some places, to the nearest division.
+fn average_of<P: Package>(places: &[P]) -> u32
+    requires { length places.now ≤ 48 }
+    ensures { result ≡ average_of (length places.now) (map P.Package.reading places.now) }
 {
-    match nearest(tare_sum(list, total as usize), u64::from(total)) {
+    match nearest(tare_sum(places), places.len() as u64) {
         Some(average) => average as u32,
         None => 0,
     }
@@ -74,10 +62,12 @@ fn net_error(label: Option<u32>, reading: Reading) -> i64
     ensures is { result ≡ pos (gross_of reading) -ℤ pos (tare_of reading) -ℤ pos (label_by label reading) }
     ensures bound { unsigned_abs result ≤ 2 ^ 33 }
 {
-    i64::from(gross_of(reading)) - i64::from(tare_of(reading)) - i64::from(label_of(label, reading))
+    let gross = reading.gross().unwrap_or(0);
+    i64::from(gross) - i64::from(tare_of(reading)) - i64::from(label_of(label, reading))
 }
 
-// The smallest and the largest of some numbers.
+// The smallest and the largest of some numbers, met one by one: of a chain's `max` a proof knows only
+// that none is larger.
 #[derive(Clone, Copy)]
 struct Span {
     least: i64,
@@ -110,45 +100,37 @@ impl Span {
     }
 }
 
-// The range of the net errors of the first places, and that of their tares.
-fn ranges<P: Package>(list: &PackageList<P>, label: Option<u32>, count: usize) -> (u64, u64)
-    requires { (1 ≤ count) × (count ≤ length list.now.places.now) }
-    ensures errors { result.0 ≡ range_of (map (λ row. pos (gross_of row) -ℤ pos (tare_of row) -ℤ pos (label_by label row)) (take count (rows_of P.Package list.now))) }
-    ensures tares { result.1 ≡ range_of (map (λ row. pos (tare_of row)) (take count (rows_of P.Package list.now))) }
-    ensures bound { result.0 ≤ 2 ^ 34 }
+// The range of the net errors of some places, and that of their tares; none where there is no place.
+fn ranges<P: Package>(places: &[P], label: Option<u32>) -> Option<(u64, u64)>
+    ensures { Ranges label (map P.Package.reading places.now) result }
 {
-    let first = list.at(0);
+    let (first, rest) = places.split_first()?;
+    let first = first.read();
     let mut errors = Span::of(net_error(label, first));
     let mut tares = Span::of(i64::from(tare_of(first)));
-    for i in 1..count {
-        let reading = list.at(i);
+    for held in rest {
+        let reading = held.read();
         errors = errors.with(net_error(label, reading));
         tares = tares.with(i64::from(tare_of(reading)));
     }
-    (errors.width(), tares.width())
+    Some((errors.width(), tares.width()))
 }
 
 impl<C: Category, K: Kind> Sheet<C, K> {
-    // How many packages are opened in all to find the tare.
-    fn total_for<P: Package>(&self, list: &PackageList<P>, initial: u32) -> u32
-        requires initial_value { initial ≡ (if (K.Kind.meaning self.now.kind).weighed then self.now.plan.initial else 0) }
-        requires sample_in_bounds { self.now.plan.sample ≤ length list.now.places.now }
-        ensures { result ≡ total_for (terms_of C.Category K.Kind P.Package self.now) (rows_of P.Package list.now) }
+    // How many packages are opened in all to find the tare, by those that are opened first.
+    fn total_for<P: Package>(&self, opened: &[P]) -> u32
+        requires { (length opened.now ≡ (terms_of C.Category K.Kind P.Package self.now).initial) × (length opened.now ≤ 48) }
+        ensures { result ≡ total_for (terms_of C.Category K.Kind P.Package self.now) (map P.Package.reading opened.now) }
     {
-        if initial == 0 {
-            return 0;
-        }
-        let (errors, tares) = ranges(list, self.lot.label, initial as usize);
-        if tares == 0 {
-            return initial;
-        }
-        let units = match self.lot.label {
-            Some(label) => u64::from(label) * u64::from(self.lot.division),
+        match ranges(opened, self.lot.label) {
             None => 0,
-        };
-        let ratio = 100 * errors / tares;
-        self.category
-            .tare_total(self.lot.size, self.kind.word(), units, ratio)
+            Some((_, 0)) => opened.len() as u32,
+            Some((errors, tares)) => {
+                let ratio = 100 * errors / tares;
+                self.category
+                    .tare_total(self.lot.size, self.kind.word(), self.lot.units(), ratio)
+            }
+        }
     }
 
     // The phase that settling leads to, or the first question that fails.
@@ -161,19 +143,21 @@ impl<C: Category, K: Kind> Sheet<C, K> {
         } else {
             0
         };
-        if !all_opened(list, initial as usize) {
+        let first = list.first(initial as usize).unwrap();
+        if !all_opened(first) {
             return Err(Refusal::InitialUnopened);
         }
-        let total = self.total_for(list, initial);
+        let total = self.total_for(first);
         if total > self.plan.sample {
             return Err(Refusal::TotalAboveSample);
         }
-        if !all_opened(list, total as usize) {
+        let opened = list.first(total as usize).unwrap();
+        if !all_opened(opened) {
             return Err(Refusal::TotalUnopened { total });
         }
         Ok(Phase::Settled {
             total,
-            average: average_of(list, total),
+            average: average_of(opened),
         })
     }
 }

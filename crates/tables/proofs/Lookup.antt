@@ -1,6 +1,6 @@
--- The value of the first row that reaches an amount is what the table has for it.
+-- What a table has for an amount: the value of the first row that reaches it, with what a test of all rows shows of it.
 use Rattle.std.proofs.Common.{◌≡◌, ℕ, ◌<◌, Bool, true, false, cond, ◌&&◌, leb, nat_le, List, [], ◌∷◌, Some, refl}
-use Rattle.std.specs.List.{find}
+use Rattle.std.specs.List.{find, list_all}
 use Rattle.std.specs.Option.{option_map_or}
 use Rattle.std.proofs.lemmas.Bool.{cond_both, and_parts, leb-false}
 use Rattle.tables.specs.Rows.{reached}
@@ -14,16 +14,7 @@ reached_found past amount (row ∷ rest) =
 
 -- each row's value passes a test
 abbrev pub every : {V : Type 0} → (V → Bool) → List (ℕ × V) → Bool
-every test [] = true
-every test (row ∷ rest) = test row.1 && every test rest
-
--- so does what the table has for an amount, whatever the amount
-pub passes : {V : Type 0} (test : V → Bool) (table : List (ℕ × V)) (past : V) (amount : ℕ) → every test table ≡ true → test past ≡ true → test (reached table past amount) ≡ true
-unfolding reached
-passes test [] past amount h p = p
-passes test (row ∷ rest) past amount h p =
-    let both = and_parts (test row.1) (every test rest) h in
-    cond_both _ _ _ (λ v. test v ≡ true) (λ _. both.0) (λ _. passes test rest past amount both.1 p)
+every test = list_all (λ row. test row.1)
 
 -- whatever a test of the values shows, and `past` has, what the table has for an amount has too
 pub holds : {V : Type 0} (P : V → Type 0) (test : V → Bool) (table : List (ℕ × V)) (past : V) (amount : ℕ) → ((v : V) → test v ≡ true → P v) → every test table ≡ true → P past → P (reached table past amount)
@@ -32,6 +23,10 @@ holds P test [] past amount t h p = p
 holds P test (row ∷ rest) past amount t h p =
     let both = and_parts (test row.1) (every test rest) h in
     cond_both _ _ _ P (λ _. t row.1 both.0) (λ _. holds P test rest past amount t both.1 p)
+
+-- so does what the table has for an amount, whatever the amount
+pub passes : {V : Type 0} (test : V → Bool) (table : List (ℕ × V)) (past : V) (amount : ℕ) → every test table ≡ true → test past ≡ true → test (reached table past amount) ≡ true
+passes test table past amount = holds (λ v. test v ≡ true) test table past amount (λ v t. t)
 
 -- each row's value, and then `past`, passes a test beside the end of the row before, and the first row's beside `end`
 abbrev pub follows : {V : Type 0} → (ℕ → V → Bool) → ℕ → List (ℕ × V) → V → Bool

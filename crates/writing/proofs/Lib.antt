@@ -1,4 +1,3 @@
 pub mod Joins
 pub mod Lines
-pub mod Puts
 pub mod RoundTrip

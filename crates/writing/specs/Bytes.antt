@@ -7,10 +7,6 @@ pub record Wrote (old bs : List ℕ) (at : ℕ) (out : List ℕ) : Type 0 where
   pub fits : at ≤ length out
   pub bytes : out ≡ bs ++ drop (length bs) old
 
--- bytes that go on behind what is written
-abbrev pub GoesOn : ℕ → List ℕ → List ℕ → ℕ → List ℕ → Type 0
-GoesOn at bs out end new = (old front : List ℕ) → Wrote old front at out → Wrote old (front ++ bs) end new
-
 -- single spaces between the words
 abbrev pub spaced : List (List ℕ) → List ℕ
 spaced [] = []

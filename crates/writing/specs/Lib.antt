@@ -2,4 +2,5 @@ pub mod Bytes
 pub mod Render
 pub mod Report
 pub mod Unwritten
+pub mod Words
 pub mod Writes

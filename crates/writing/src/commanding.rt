@@ -1,14 +1,13 @@
 ghost use Rattle.std.specs.Prelude.{◌≡◌, ℕ, ◌≤◌, true, [], ◌∷◌, length, take, IfOk, Some, Ok, decimal};
-ghost use Rattle.std.specs.Option.{option_to_list};
 ghost use Rattle.commands.specs.Parsing.{reading};
 ghost use Rattle.commands.specs.declared.command.Command.{Command as AnyCommand};
-ghost use Rattle.commands.specs.declared.command.Command.TheVariants.{Lot as LotOf, Call as CallOf};
-ghost use Rattle.writing.specs.Bytes.{Wrote, line as line_of};
+ghost use Rattle.writing.specs.Bytes.{line as line_of};
 ghost use Rattle.writing.specs.Render.{letter as letter_of, all_small, optional, writable, render};
 ghost use Rattle.writing.specs.Writes.{WritesCommand};
 
-use crate::bytes::{next_number, put};
+use crate::page::Page;
 use crate::unwritten::Unwritten;
+use crate::word::Word::{Label, Letter, Number, Text};
 use categories::handbook::HandbookCategory;
 use commands::command::Command;
 use kinds::handbook::HandbookKind;
@@ -22,15 +21,6 @@ fn is_small(n: u32) -> bool
     n <= 999_999_999
 }
 
-fn is_small_label(label: Option<u32>) -> bool
-    ensures { result ≡ all_small (option_to_list label) }
-{
-    match label {
-        Some(label) => is_small(label),
-        None => true,
-    }
-}
-
 // No number of the command has more than nine digits.
 fn is_writable(command: Command) -> bool
     ensures { result ≡ writable command }
@@ -39,7 +29,7 @@ fn is_writable(command: Command) -> bool
         Command::Lot { lot, .. } => is_small(lot.size)
             && is_small(lot.division)
             && is_small(lot.allowance)
-            && is_small_label(lot.label),
+            && lot.label.is_none_or(is_small),
         Command::Call(
             Call::Weigh {
                 place,
@@ -51,114 +41,82 @@ fn is_writable(command: Command) -> bool
                 gross,
                 label,
             },
-        ) => is_small(place) && is_small(gross) && is_small_label(label),
+        ) => is_small(place) && is_small(gross) && label.is_none_or(is_small),
         Command::Call(Call::Strike { place }) => is_small(place),
         Command::Call(Call::Open { place, tare }) => is_small(place) && is_small(tare),
         Command::Call(Call::Settle | Call::Reopen) | Command::End => true,
     }
 }
 
-// A command word that stands alone.
-fn write_alone(out: &mut [u8], verb: &[u8]) -> usize
-    requires { (64 ≤ length out.old) × (length verb.now ≤ 3) }
-    ensures { Wrote out.old (line_of (verb.now ∷ [])) result out.new }
-{
-    let end = put(out, 0, verb);
-    put(out, end, b"\n")
-}
-
-// A command word and one number.
-fn write_one(out: &mut [u8], verb: &[u8], a: u32) -> usize
-    requires { (64 ≤ length out.old) × (length verb.now ≤ 3) }
-    ensures { Wrote out.old (line_of (verb.now ∷ decimal a ∷ [])) result out.new }
-{
-    let end = put(out, 0, verb);
-    let end = next_number(out, end, a);
-    put(out, end, b"\n")
-}
-
-// A command word and two numbers.
-fn write_two(out: &mut [u8], verb: &[u8], a: u32, b: u32) -> usize
-    requires { (64 ≤ length out.old) × (length verb.now ≤ 3) }
-    ensures { Wrote out.old (line_of (verb.now ∷ decimal a ∷ decimal b ∷ [])) result out.new }
-{
-    let end = put(out, 0, verb);
-    let end = next_number(out, end, a);
-    let end = next_number(out, end, b);
-    put(out, end, b"\n")
-}
-
-// A command word and three numbers.
-fn write_three(out: &mut [u8], verb: &[u8], a: u32, b: u32, c: u32) -> usize
-    requires { (64 ≤ length out.old) × (length verb.now ≤ 3) }
-    ensures { Wrote out.old (line_of (verb.now ∷ decimal a ∷ decimal b ∷ decimal c ∷ [])) result out.new }
-{
-    let end = put(out, 0, verb);
-    let end = next_number(out, end, a);
-    let end = next_number(out, end, b);
-    let end = next_number(out, end, c);
-    put(out, end, b"\n")
-}
-
-fn letter_of(category: HandbookCategory) -> &'static [u8]
-    ensures is { result.now ≡ letter_of category }
-    ensures one { length result.now ≡ 1 }
+fn letter_of(category: HandbookCategory) -> u8
+    ensures { result ∷ [] ≡ letter_of category }
 {
     match category {
-        HandbookCategory::A => b"A",
-        HandbookCategory::B => b"B",
-        HandbookCategory::C => b"C",
+        HandbookCategory::A => b'A',
+        HandbookCategory::B => b'B',
+        HandbookCategory::C => b'C',
     }
 }
 
-fn write_lot(out: &mut [u8], category: HandbookCategory, kind: HandbookKind, lot: Lot) -> usize
-    requires { 64 ≤ length out.old }
-    ensures { Wrote out.old (render (LotOf category kind lot)) result out.new }
+// A weight's line, with a label if one is given.
+fn write_weight(page: &mut Page<64>, verb: &[u8], place: u32, gross: u32, label: Option<u32>)
+    requires { (page.old.bytes.items ≡ []) × (length verb.now ≤ 3) }
+    ensures { page.new.bytes.items ≡ line_of (verb.now ∷ decimal place ∷ decimal gross ∷ optional label) }
 {
-    let end = put(out, 0, b"lot ");
-    let end = put(out, end, letter_of(category));
-    let end = put(out, end, b" ");
-    let end = put(out, end, kind.word().as_bytes());
-    let end = next_number(out, end, lot.size);
-    let end = next_number(out, end, lot.division);
-    let end = match lot.label {
-        Some(label) => next_number(out, end, label),
-        None => put(out, end, b" -"),
-    };
-    let end = next_number(out, end, lot.allowance);
-    put(out, end, b"\n")
-}
-
-fn write_weight(out: &mut [u8], verb: &[u8], place: u32, gross: u32, label: Option<u32>) -> usize
-    requires { (64 ≤ length out.old) × (length verb.now ≤ 3) }
-    ensures { Wrote out.old (line_of (verb.now ∷ decimal place ∷ decimal gross ∷ optional label)) result out.new }
-{
+    let verb = Text(verb);
+    let place = Number(place);
+    let gross = Number(gross);
     match label {
-        Some(label) => write_three(out, verb, place, gross, label),
-        None => write_two(out, verb, place, gross),
+        Some(label) => page.line(verb, &[place, gross, Number(label)]),
+        None => page.line(verb, &[place, gross]),
     }
 }
 
-fn write_call(out: &mut [u8], call: Call) -> usize
-    requires { 64 ≤ length out.old }
-    ensures { Wrote out.old (render (CallOf call)) result out.new }
+// A command's line.
+fn page_of(command: Command) -> Page<64>
+    ensures { result.bytes.items ≡ render command }
 {
-    match call {
-        Call::Weigh {
-            place,
-            gross,
-            label,
-        } => write_weight(out, b"wt", place, gross, label),
-        Call::Correct {
-            place,
-            gross,
-            label,
-        } => write_weight(out, b"fix", place, gross, label),
-        Call::Strike { place } => write_one(out, b"del", place),
-        Call::Open { place, tare } => write_two(out, b"op", place, tare),
-        Call::Settle => write_alone(out, b"set"),
-        Call::Reopen => write_alone(out, b"re"),
+    let mut page = Page::new();
+    match command {
+        Command::Lot {
+            category,
+            kind,
+            lot,
+        } => page.line(
+            Text(b"lot"),
+            &[
+                Letter(letter_of(category)),
+                Text(kind.word().as_bytes()),
+                Number(lot.size),
+                Number(lot.division),
+                Label(lot.label),
+                Number(lot.allowance),
+            ],
+        ),
+        Command::Call(
+            Call::Weigh {
+                place,
+                gross,
+                label,
+            },
+        ) => write_weight(&mut page, b"wt", place, gross, label),
+        Command::Call(
+            Call::Correct {
+                place,
+                gross,
+                label,
+            },
+        ) => write_weight(&mut page, b"fix", place, gross, label),
+        Command::Call(Call::Strike { place }) => page.line(Text(b"del"), &[Number(place)]),
+        Command::Call(Call::Open { place, tare }) => page.line(
+            Text(b"op"),
+            &[Number(place), Number(tare)],
+        ),
+        Command::Call(Call::Settle) => page.line(Text(b"set"), &[]),
+        Command::Call(Call::Reopen) => page.line(Text(b"re"), &[]),
+        Command::End => page.line(Text(b"end"), &[]),
     }
+    page
 }
 
 // A command as a line that reads back as the same command. Refuses a number of more than nine digits, then an output of fewer
@@ -171,16 +129,5 @@ pub fn write_command(command: Command, out: &mut [u8]) -> Result<usize, Unwritte
     if !is_writable(command) {
         return Err(Unwritten::NotNumber);
     }
-    if out.len() < 64 {
-        return Err(Unwritten::FewBytes);
-    }
-    Ok(match command {
-        Command::Lot {
-            category,
-            kind,
-            lot,
-        } => write_lot(out, category, kind, lot),
-        Command::Call(call) => write_call(out, call),
-        Command::End => write_alone(out, b"end"),
-    })
+    page_of(command).print(out)
 }

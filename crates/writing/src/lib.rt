@@ -1,7 +1,8 @@
 #![tactic(auto)]
 
-mod bytes;
 pub mod commanding;
+mod page;
 pub mod refusing;
 pub mod reporting;
 pub mod unwritten;
+mod word;

@@ -1,18 +1,16 @@
-use Rattle.std.proofs.Common.{◌+◌, ◌-◌, ◌++◌, take, drop, vec_items, codes, refl, ap, ◌∙◌, subst, arith}
+use Rattle.std.proofs.Common.{◌≡◌, ◌+◌, vec_items, inl, refl, ◌∙◌, subst, arith}
+use Rattle.std.specs.Iterator.Adapters.{enumerate_source, enumerate_count}
 use Rattle.sheet.specs.Views.{rows_of}
 use Rattle.words.specs.Lines.{lines}
 use Rattle.console.specs.Effects.{idle, standing}
-use Rattle.console.specs.Transcripts.{said, Told, Answers}
-use Rattle.console.proofs.Turns.{long, short, turn, done}
+use Rattle.console.specs.Transcripts.{Told, said, Answers}
+use Rattle.console.proofs.Turns.{few_lines, short, turn, done}
 use Rattle.console.proofs.transcribing.transcribe.Goals as goal
 
-pub returns-then-text-gt65536 : goal.returns-then-text-gt65536
-returns-then-text-gt65536 g c = record {
-  transcript = long g.P.Package.labeled c.args.text.now _ (rows_of g.P.Package c.args.list.now) c.if-text-gt65536.true
-      (c.in_ok-extend_from_slice.ensures.items ∙ ap (λ l. l ++ codes "1 1 T 1\n") c.new-all.ensures.items);
-  lends = refl;
-  len = refl;
-}
+pub loop-at-init-derived : goal.loop-at-init-derived
+loop-at-init-derived g c =
+    rw (c.into_iter-at-iterator.ensures.into_iter_gives, c.enumerate-at-items.ensures.source, c.enumerate-at-items.ensures.count)
+    ((tt, tt, inl (omega (arith, few_lines c.args.text.now))), tt)
 
 pub loop-at-preserved : goal.loop-at-preserved
 loop-at-preserved g c =
@@ -21,32 +19,26 @@ loop-at-preserved g c =
     let st₁ = standing labeled c.take_line-next.result.0 in
     let rows = rows_of g.P.Package c.loop-at.list in
     let rows₁ = rows_of g.P.Package c.take_line-next.new.list in
-    let text = c.args.text.now in
-    let here = take (c.loop-at.at + c.line_length.result - c.loop-at.at) (drop c.loop-at.at text) in (
-      omega arith,
-      omega arith,
-      omega (arith, c.take_line-next.auto.out, c.loop-at.invariant.2),
-      turn labeled text c.loop-at.at c.loop-at.line st rows (vec_items c.loop-at.all)
-          (λ out. Told labeled 1 (lines text) idle (rows_of g.P.Package c.args.list.now) out) c.loop-at.invariant.3
-          c.line_length.result c.in-Ok.n c.loop-at.out c.take_line-next.new.out _ st₁ rows₁
-          c.loop-at-test.true c.line_length.ensures.is
-          (subst (λ r. Answers (said labeled c.loop-at.line here st rows) st rows c.loop-at.out r c.take_line-next.new.out st₁ rows₁) c.in-Ok.is c.take_line-next.ensures.answers)
-          c.in_default-extend_from_slice.ensures.items,
-      c.take_line-next.ensures.lends ∙ c.loop-at.invariant.4,
-      c.take_line-next.ensures.len ∙ c.loop-at.invariant.5,
-    )
+    let k = enumerate_count c.loop-at.at-iterator in
+    let steps = c.in-Some.ensures.steps in
+    let next : enumerate_count c.next.new.self ≡ k + 1 = steps.2 in
+    let answers = subst (λ r. Answers (said labeled (k + 1) c.in-Some.line.now st rows) st rows c.loop-at.out r c.take_line-next.new.out st₁ rows₁) c.in-Ok.is
+    (subst (λ n. Answers (said labeled (n + 1) c.in-Some.line.now st rows) st rows c.loop-at.out c.take_line-next.result.1 c.take_line-next.new.out st₁ rows₁) steps.1 c.take_line-next.ensures.answers)
+    in
+    record {
+      room = omega (arith, c.take_line-next.auto.out, c.loop-at.invariant.room);
+      told = λ rest go.
+          turn labeled st rows k c.in-Ok.n c.loop-at.out c.take_line-next.new.out (vec_items c.loop-at.all) _ c.in_default-extend_from_slice.ensures.items
+          (λ out. Told labeled 1 (lines c.args.text.now) idle (rows_of g.P.Package c.args.list.now) out) _ _ c.in-Some.line.now steps.0 c.loop-at.invariant.told st₁ rows₁ answers
+          rest (subst (λ n. Told labeled (n + 1) (lines (enumerate_source c.next.new.self).0.now) st₁ rows₁ rest) next go);
+      memory = record { lent = c.take_line-next.ensures.memory.lent ∙ c.loop-at.invariant.memory.lent; long = c.take_line-next.ensures.memory.long ∙ c.loop-at.invariant.memory.long };
+    }
 
-pub returns : goal.returns
-returns g c =
+pub returns-clause-transcript : goal.returns-clause-transcript
+returns-clause-transcript g c =
     let labeled = g.P.Package.labeled in
     let text = c.args.text.now in
     let rows₀ = rows_of g.P.Package c.args.list.now in
-    record {
-      transcript =
-          short labeled text _ rows₀ c.if-text-gt65536.false
-          (done labeled text c.loop-at.at c.loop-at.line (standing labeled c.loop-at.session) (rows_of g.P.Package c.loop-at.list) (vec_items c.loop-at.all)
-          (λ out. Told labeled 1 (lines text) idle rows₀ out) c.loop-at.invariant.3
-          c.in-Ok-finish.n c.loop-at.out c.finish.new.out _ c.loop-at.session refl c.loop-at-test.false c.in-Ok-finish.ensures.1 c.in_ok-extend_from_slice-in-Ok-finish.ensures.items);
-      lends = c.loop-at.invariant.4;
-      len = c.loop-at.invariant.5;
-    }
+    short labeled text _ rows₀ c.if-text-gt65536.false
+    (done labeled (standing labeled c.loop-at.session) (rows_of g.P.Package c.loop-at.list) (enumerate_count c.loop-at.at-iterator) c.in-Ok-finish.n c.loop-at.out c.finish.new.out (vec_items c.loop-at.all) _
+    c.in_ok-extend_from_slice-in-Ok-finish.ensures.items (λ out. Told labeled 1 (lines text) idle rows₀ out) _ c.in-None.ensures.steps.0.0 c.loop-at.invariant.told c.loop-at.session refl c.in-Ok-finish.ensures.1)

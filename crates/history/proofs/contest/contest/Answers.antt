@@ -2,13 +2,9 @@ use Rattle.history.specs.Setups.{setup_of}
 use Rattle.history.proofs.Contesting.{both_ruled}
 use Rattle.history.proofs.contest.contest.Goals as goal
 
-pub returns : goal.returns
-returns g c = record {
-  first = c.start_and_run-one.ensures.ends;
-  second = c.start_and_run-two.ensures.ends;
-  rule = both_ruled
-      (setup_of g.C.Category g.K.Kind g.P.Package c.args.first c.args.entries.now c.args.places.now)
-      (setup_of g.D.Category g.L.Kind g.Q.Package c.args.second c.args.more.now c.args.others.now)
-      _ _ _ _ c.start_and_run-one.ensures.ends c.start_and_run-two.ensures.ends;
-  memory = (c.start_and_run-one.ensures.memory, c.start_and_run-two.ensures.memory);
-}
+pub returns-clause-rule : goal.returns-clause-rule
+returns-clause-rule g c =
+    both_ruled
+    (setup_of g.C.Category g.K.Kind g.P.Package c.args.first c.args.entries.now c.args.places.now)
+    (setup_of g.D.Category g.L.Kind g.Q.Package c.args.second c.args.more.now c.args.others.now)
+    _ _ _ _ c.start_and_run-one.ensures.ends c.start_and_run-two.ensures.ends

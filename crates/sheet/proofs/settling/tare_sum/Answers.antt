@@ -1,15 +1,16 @@
-use Rattle.std.proofs.Common.{◌≡◌, ◌<◌, length, get_or, arith}
+use Rattle.std.proofs.Common.{◌<◌, map, length, arith}
 use Rattle.std.proofs.lemmas.List.{length-map}
-use Rattle.packages.specs.declared.reading.Reading.TheVariants.{Empty}
+use Rattle.std.proofs.lemmas.List.Sums.{sum_by_more}
 use Rattle.packages.specs.Readings.{tare_of}
-use Rattle.sheet.specs.Views.{rows_of}
-use Rattle.sheet.proofs.Tares.{tare_sum_more}
+use Rattle.sheet.proofs.Places.{read_at}
 use Rattle.sheet.proofs.settling.tare_sum.Goals as goal
 
-pub loop-i-preserved : goal.loop-i-preserved
-loop-i-preserved g c =
-    let rows = rows_of g.P.Package c.args.list.now in
-    let l : c.loop-i.i < length rows = simp length-map (omega arith) in
-    let e = tare_sum_more rows c.loop-i.i l in
-    let t : tare_of c.at.result ≡ tare_of (get_or rows c.loop-i.i Empty) = cc c.at.ensures in
-    (omega arith, omega arith)
+pub loop-held-preserved : goal.loop-held-preserved
+loop-held-preserved g c =
+    let read = g.P.Package.reading in
+    let held = c.held-item.result in
+    let rows = map read c.args.places.now in
+    let l : c.loop-held.held-index < length rows = simp length-map (omega arith) in
+    let more = sum_by_more tare_of rows c.loop-held.held-index (read held) l in
+    let at = read_at read c.args.places.now c.loop-held.held-index held (read held) c.loop-held-test.true c.held-item.is in
+    record { so_far = cc; bound = omega arith }

@@ -1,21 +1,14 @@
-use Rattle.std.proofs.Common.{sym, ◌∙◌}
-use Rattle.writing.proofs.Joins.{whole, reads, alone}
+use Rattle.std.proofs.Common.{sym, ◌∙◌, subst}
+use Rattle.writing.specs.Writes.{Writes}
+use Rattle.writing.proofs.Joins.{reads, alone}
 use Rattle.writing.proofs.commanding.write_command.Goals as goal
 
-pub returns-in-Lot : goal.returns-in-Lot
-returns-in-Lot c =
-    let s = sym c.is_writable.ensures ∙ c.if-not-is_writable.false in
-    let w = whole c.args.command _ c.in-Lot.is c.write_lot.ensures in
-    record { writes = (s, c.if-out-lt64.false, w); back = reads c.args.command w s; apart = alone c.args.command w s }
+pub returns-clause-back : goal.returns-clause-back
+returns-clause-back c =
+    reads c.args.command (sym c.is_writable.ensures ∙ c.if-not-is_writable.false) c.args.out.now c.print.new.out c.print.result
+    (subst (λ l. Writes 64 l c.args.out.now c.print.result c.print.new.out) c.page_of.ensures c.print.ensures)
 
-pub returns-in-Call : goal.returns-in-Call
-returns-in-Call c =
-    let s = sym c.is_writable.ensures ∙ c.if-not-is_writable.false in
-    let w = whole c.args.command _ c.in-Call.is c.write_call.ensures in
-    record { writes = (s, c.if-out-lt64.false, w); back = reads c.args.command w s; apart = alone c.args.command w s }
-
-pub returns-in-End : goal.returns-in-End
-returns-in-End c =
-    let s = sym c.is_writable.ensures ∙ c.if-not-is_writable.false in
-    let w = whole c.args.command _ c.in-End.is c.write_alone.ensures in
-    record { writes = (s, c.if-out-lt64.false, w); back = reads c.args.command w s; apart = alone c.args.command w s }
+pub returns-clause-apart : goal.returns-clause-apart
+returns-clause-apart c =
+    alone c.args.command (sym c.is_writable.ensures ∙ c.if-not-is_writable.false) c.args.out.now c.print.new.out c.print.result
+    (subst (λ l. Writes 64 l c.args.out.now c.print.result c.print.new.out) c.page_of.ensures c.print.ensures)

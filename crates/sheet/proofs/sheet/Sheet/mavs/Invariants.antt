@@ -1,10 +1,7 @@
-use Rattle.std.proofs.Common.{◌≡◌, map, length, take}
-use Rattle.sheet.specs.Tare.{label_of}
-use Rattle.sheet.specs.Views.{rows_of, terms_of}
+use Rattle.std.proofs.Common.{◌≡◌, map, take}
+use Rattle.sheet.specs.Closing.{package_mavs}
+use Rattle.sheet.specs.Views.{terms_of}
 use Rattle.sheet.proofs.sheet.Sheet.mavs.Given as goal
 
-abbrev pub invariant-loop-i : goal.invariant-loop-i
-invariant-loop-i g l =
-    (length l.mavs ≡ 48)
-    × (take l.i l.mavs
-    ≡ map (λ r. (terms_of g.C.Category g.K.Kind g.P.Package l.self).mav (label_of (terms_of g.C.Category g.K.Kind g.P.Package l.self) r)) (take l.i (rows_of g.P.Package l.list)))
+abbrev pub invariant-loop-held : goal.invariant-loop-held
+invariant-loop-held g l = l.mavs.items ≡ take l.held-index (package_mavs (terms_of g.C.Category g.K.Kind g.P.Package l.self) (map g.P.Package.reading l.sample))

@@ -1,0 +1,11 @@
+// A word of a line that is written.
+#[derive(Clone, Copy)]
+pub(crate) enum Word<'a> {
+    Text(&'a [u8]),
+    Letter(u8),
+    Number(u32),
+    // a number, or a dash for none
+    Label(Option<u32>),
+    Wide(u64),
+    Signed(i64),
+}
