@@ -1,6 +1,7 @@
 ghost use Rattle.std.specs.Prelude.{◌≡◌, ℕ, ◌≤◌, true, [], ◌∷◌, length, take, IfOk, Some, Ok, decimal};
 ghost use Rattle.commands.specs.Parsing.{reading};
 ghost use Rattle.commands.specs.declared.command.Command.{Command as AnyCommand};
+ghost use Rattle.commands.specs.declared.command.Command.TheVariants.{Lot as LotOf, Call as CallOf};
 ghost use Rattle.writing.specs.Bytes.{line as line_of};
 ghost use Rattle.writing.specs.Render.{letter as letter_of, all_small, optional, writable, render};
 ghost use Rattle.writing.specs.Writes.{WritesCommand};
@@ -72,6 +73,45 @@ fn write_weight(page: &mut Page<64>, verb: &[u8], place: u32, gross: u32, label:
     }
 }
 
+fn write_lot(page: &mut Page<64>, category: HandbookCategory, kind: HandbookKind, lot: Lot)
+    requires { page.old.bytes.items ≡ [] }
+    ensures { page.new.bytes.items ≡ render (LotOf category kind lot) }
+{
+    page.line(
+        Text(b"lot"),
+        &[
+            Letter(letter_of(category)),
+            Text(kind.word().as_bytes()),
+            Number(lot.size),
+            Number(lot.division),
+            Label(lot.label),
+            Number(lot.allowance),
+        ],
+    )
+}
+
+fn write_call(page: &mut Page<64>, call: Call)
+    requires { page.old.bytes.items ≡ [] }
+    ensures { page.new.bytes.items ≡ render (CallOf call) }
+{
+    match call {
+        Call::Weigh {
+            place,
+            gross,
+            label,
+        } => write_weight(page, b"wt", place, gross, label),
+        Call::Correct {
+            place,
+            gross,
+            label,
+        } => write_weight(page, b"fix", place, gross, label),
+        Call::Strike { place } => page.line(Text(b"del"), &[Number(place)]),
+        Call::Open { place, tare } => page.line(Text(b"op"), &[Number(place), Number(tare)]),
+        Call::Settle => page.line(Text(b"set"), &[]),
+        Call::Reopen => page.line(Text(b"re"), &[]),
+    }
+}
+
 // A command's line.
 fn page_of(command: Command) -> Page<64>
     ensures { result.bytes.items ≡ render command }
@@ -82,38 +122,8 @@ fn page_of(command: Command) -> Page<64>
             category,
             kind,
             lot,
-        } => page.line(
-            Text(b"lot"),
-            &[
-                Letter(letter_of(category)),
-                Text(kind.word().as_bytes()),
-                Number(lot.size),
-                Number(lot.division),
-                Label(lot.label),
-                Number(lot.allowance),
-            ],
-        ),
-        Command::Call(
-            Call::Weigh {
-                place,
-                gross,
-                label,
-            },
-        ) => write_weight(&mut page, b"wt", place, gross, label),
-        Command::Call(
-            Call::Correct {
-                place,
-                gross,
-                label,
-            },
-        ) => write_weight(&mut page, b"fix", place, gross, label),
-        Command::Call(Call::Strike { place }) => page.line(Text(b"del"), &[Number(place)]),
-        Command::Call(Call::Open { place, tare }) => page.line(
-            Text(b"op"),
-            &[Number(place), Number(tare)],
-        ),
-        Command::Call(Call::Settle) => page.line(Text(b"set"), &[]),
-        Command::Call(Call::Reopen) => page.line(Text(b"re"), &[]),
+        } => write_lot(&mut page, category, kind, lot),
+        Command::Call(call) => write_call(&mut page, call),
         Command::End => page.line(Text(b"end"), &[]),
     }
     page
