@@ -1,5 +1,5 @@
 -- What is said of a verdict and of two samples.
-use Rattle.std.specs.Prelude.{ℕ, ◌+◌, ◌-◌, ◌^◌, Bool, List, [], ◌∷◌, ◌++◌, if◌then◌else◌, min, codes, decimal, Some, None, Option}
+use Rattle.std.specs.Prelude.{ℕ, ◌+◌, ◌-◌, ◌^◌, Bool, List, ◌∷◌, ◌++◌, if◌then◌else◌, min, codes, decimal, Some, None, Option}
 use Rattle.comparison.specs.declared.premises.Premises.{Premises}
 use Rattle.decision.specs.declared.outcome.Verdict.{Verdict}
 use Rattle.decision.specs.declared.outcome.Verdict.TheVariants.{Mav, Plan, Over, Average, Within}

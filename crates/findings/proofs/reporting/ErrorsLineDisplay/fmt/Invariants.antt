@@ -1,6 +1,5 @@
-use Rattle.std.proofs.Common.{◌++◌, take, codes}
+use Rattle.std.proofs.Common.{take}
 use Rattle.std.specs.Fmt.{HasWritten, IsPlainFormatter}
-use Rattle.std.specs.List.{flat_map}
 use Rattle.findings.specs.Reports.{errors_text}
 use Rattle.findings.proofs.reporting.ErrorsLineDisplay.fmt.Given as goal
 
