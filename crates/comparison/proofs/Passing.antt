@@ -3,7 +3,7 @@ use Rattle.std.proofs.Common.{◌≡◌, ℕ, suc, ◌+◌, ◌-◌, ◌*◌, �
 use lib.Signed.{lt_z, le_z}
 use borrow.Author.Differences.{ints, up, down}
 use Rattle.std.specs.List.{zip}
-use Rattle.std.proofs.lemmas.Bool.{le-ltb, ltb-false}
+use Rattle.std.proofs.lemmas.Bool.{le-ltb, ltb-false, false≢true}
 use Rattle.std.proofs.lemmas.List.Sums.{sum_by-cons}
 use Rattle.decision.proofs.Ring.{v, n, neg, mul, same, most}
 use Rattle.decision.proofs.Spread.{add_le, spread_pairs}
@@ -101,9 +101,6 @@ zero_no b e = omega (arith, ints)
 zero_yes : (b : ℤ) → pos 0 ≤ℤ b → le_z (pos 0) b ≡ true
 zero_yes b e = sym (omega (arith, ints))
 
-both : (b : Bool) (P : Type 0) → b ≡ true → b ≡ false → P
-both b P p q = absurd (let z : ◌≡◌ {A = ℕ} 0 1 = ap (λ t. cond t 0 1) (sym p ∙ q) in omega arith)
-
 chosen_le : (which : Counted) (u u' h h' : ℕ) → u' ≤ u → h' ≤ h → chosen which u' h' ≤ chosen which u h
 chosen_le Unreasonable u u' h h' p q = p
 chosen_le Short u u' h h' p q = q
@@ -127,7 +124,7 @@ module _ (rule : Rule) (division : ℕ) (mavs : List (ℕ × ℕ)) (es ds : List
     counted = counted_le;
     order = λ s. kept_by_first _ _ _ _ _ _ _ (allowed_less rule.allowed _ _ counted_le) (zero_up _ _ (total_up es ds h)) (λ a o. falls_less s o a);
     average = λ z. kept_by_first _ _ _ _ _ _ _ (allowed_less rule.allowed _ _ counted_le) (zero_up _ _ (total_up es ds h))
-        (λ a o. both _ _ (zero_up _ _ (total_up es ds h) (zero_yes _ z)) o);
+        (λ a o. absurd (false≢true (sym o ∙ zero_up _ _ (total_up es ds h) (zero_yes _ z))));
   }
 
 pub two_lists : TwoLists

@@ -19,12 +19,12 @@ use Rattle.decision.proofs.Spread.{spread_pairs}
 module _ (es ds : List ℤ) where
   lower_iff : (o : Option ℕ) → length ds ≡ length es → Lower es ds o → (o ≡ None → NoneLower es ds) × (NoneLower es ds → o ≡ None)
   lower_iff None l h = (λ e. (l, h), λ n. refl)
-  lower_iff (Some k) l h = (λ e. absurd (let z : ◌≡◌ {A = ℕ} 0 1 = cc in omega arith), λ n. absurd (let a = n.1 k h.0 in let b = h.1 in omega (arith, ints)))
+  lower_iff (Some k) l h = (λ e. absurd cc, λ n. absurd (let a = n.1 k h.0 in let b = h.1 in omega (arith, ints)))
 
   crossed_iff : (o : Option (ℕ × ℕ)) → Crossed es ds o → (o ≡ None → OrderKept es ds) × (OrderKept es ds → o ≡ None)
   crossed_iff None h = (λ e j k jl kl lt. by_lt_z (rise es ds k) (rise es ds j) (λ m. absurd (h j jl k kl (lt, m))) (λ m. m), λ n. refl)
   crossed_iff (Some p) h = (
-    λ e. absurd (let z : ◌≡◌ {A = ℕ} 0 1 = cc in omega arith),
+    λ e. absurd cc,
     λ n. absurd (let a = n p.0 p.1 h.0 h.1.0 h.1.1.0 in let b = h.1.1.1 in omega (arith, ints)),
   )
 

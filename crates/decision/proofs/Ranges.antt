@@ -37,7 +37,7 @@ pub record Accepted (mavs : ℕ) (rule : Rule) (es : List ℤ) : Type 0 where
 
 -- what the last three questions leave
 last_three : (rule : Rule) (n : ℕ) (o : Option ℕ) → ranged rule n o ≡ None → (o ≡ None) × (rule.factor * n ≤ 18000) × (rule.average ≡ true → 2 ≤ n)
-last_three rule n (Some place) e = absurd (let z : ◌≡◌ {A = ℕ} 0 1 = cc in omega arith)
+last_three rule n (Some place) e = absurd cc
 last_three rule n None e = (refl, grind arith, λ a. grind arith)
 
 first_two : (n m : ℕ) (o : Option Fault) → cond (ltb n 1 || ltb 48 n) (Some Count) (cond (not (eqb m n)) (Some Mavs) o) ≡ None → (1 ≤ n) × (n ≤ 48) × (m ≡ n) × (o ≡ None)

@@ -26,7 +26,7 @@ fn ask(errors: &[i32], mavs: usize, rule: Rule) -> Result<(), Fault>
     ensures { result_err result ≡ refusal mavs rule errors.now }
 {
     let n = errors.len();
-    if n < 1 || n > 48 {
+    if !(1..=48).contains(&n) {
         return Err(Fault::Count);
     }
     if mavs != n {

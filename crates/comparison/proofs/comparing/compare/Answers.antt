@@ -11,6 +11,15 @@ use Rattle.comparison.proofs.comparing.compare.Goals as goal
 as_long : (mavs : List (ℕ × ℕ)) (rule : Rule) (es ds : List ℤ) → refusal (length mavs) rule es ≡ None → refusal (length mavs) rule ds ≡ None → length ds ≡ length es
 as_long mavs rule es ds a b = sym (accepted (length mavs) rule ds b).beside ∙ (accepted (length mavs) rule es a).beside
 
+pub invariant_of-pair : goal.invariant_of-pair
+invariant_of-pair c =
+    let answered = Answers c.args.division c.args.mavs.now c.args.rule in
+    let one : c.decide.result ≡ Ok c.in_ok-one.one = grind arith in
+    let two : c.decide-2.result ≡ Ok c.in_ok-two.two = grind arith in
+    let a = subst (answered c.args.first.now) one c.decide.ensures in
+    let b = subst (answered c.args.second.now) two c.decide-2.ensures in
+    record { same_length = as_long c.args.mavs.now c.args.rule c.args.first.now c.args.second.now a.0 b.0 }
+
 pub returns : goal.returns
 returns c =
     let answered = Answers c.args.division c.args.mavs.now c.args.rule in

@@ -1,4 +1,4 @@
-use Rattle.std.proofs.Common.{◌≡◌, ℕ, ◌<◌, List, length, get_or, ℤ, pos, ⊎_elim, arith, sym, ap, ◌∙◌, subst, w32, SFits, rules}
+use Rattle.std.proofs.Common.{◌≡◌, ℕ, ◌<◌, ◌≤◌, List, length, get_or, ℤ, pos, ⊎_elim, arith, sym, ap, ◌∙◌, subst, w32, SFits, rules}
 use Rattle.std.specs.List.{zip, enumerate_from}
 use Rattle.std.specs.Iterator.Adapters.{zip_first, zip_second}
 use Rattle.std.proofs.iter.Yields.{fronts}
@@ -38,6 +38,6 @@ loop-j-preserved c j jl k kl x =
     let f : SFits w32 c.in-Some.first.now = search rules in
     let g : SFits w32 c.in-Some.second.now = search rules in
     let more = length_push c.loop-j.yielded (c.in-Some.j, (c.in-Some.first, c.in-Some.second)) in
-    ⊎_elim (λ l. c.loop-j.invariant j l k kl x)
-    (λ l. let s : j ≡ n = omega (arith, jl, more, l) in c.in_default.ensures k kl (simp to_z-of_z (subst (λ p. Crosses p (at es k, at ds k)) (sym e) (subst (λ i. Crosses (at es i, at ds i) (at es k, at ds k)) s x))))
+    ⊎_elim (λ (l : j < n). c.loop-j.invariant j l k kl x)
+    (λ (l : n ≤ j). let s : j ≡ n = omega (arith, jl, more, l) in c.in_default.ensures k kl (simp to_z-of_z (subst (λ p. Crosses p (at es k, at ds k)) (sym e) (subst (λ i. Crosses (at es i, at ds i) (at es k, at ds k)) s x))))
     (cases_lt j n)
