@@ -48,7 +48,9 @@ impl<C: Category, K: Kind> Sheet<C, K> {
     fn perform<P: Package>(&mut self, list: &mut PackageList<P>, call: Call) -> Result<(), Refusal>
         requires enough_places { self.old.plan.sample ≤ length list.old.places.now }
         requires placed { placed_by self.old.plan.sample (place_of call) ≡ true }
-        ensures step { Follows (thawed (terms_of C.Category K.Kind P.Package self.old) self.old.phase (rows_of P.Package list.old) call) self.old.phase (rows_of P.Package list.old) result self.new.phase (rows_of P.Package list.new) }
+        ensures step { Follows
+            (thawed (terms_of C.Category K.Kind P.Package self.old) self.old.phase (rows_of P.Package list.old) call)
+            self.old.phase (rows_of P.Package list.old) result self.new.phase (rows_of P.Package list.new) }
         ensures kept { Kept self.old self.new }
         ensures memory { SameMemory list.old.places list.new.places }
     {
@@ -105,7 +107,9 @@ impl<C: Category, K: Kind> Sheet<C, K> {
 
     // One call on the open sheet.
     pub fn act<P: Package>(&mut self, list: &mut PackageList<P>, call: Call) -> Result<(), Refusal>
-        ensures step { Follows (step_by (terms_of C.Category K.Kind P.Package self.old) self.old.phase (rows_of P.Package list.old) call) self.old.phase (rows_of P.Package list.old) result self.new.phase (rows_of P.Package list.new) }
+        ensures step { Follows
+            (step_by (terms_of C.Category K.Kind P.Package self.old) self.old.phase (rows_of P.Package list.old) call)
+            self.old.phase (rows_of P.Package list.old) result self.new.phase (rows_of P.Package list.new) }
         ensures kept { Kept self.old self.new }
         ensures memory { SameMemory list.old.places list.new.places }
     {

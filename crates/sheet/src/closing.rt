@@ -80,8 +80,10 @@ impl<C: Category, K: Kind> Sheet<C, K> {
     // The MAV of each package of the sample.
     fn mavs<P: Package>(&self, sample: &[P]) -> ArrayVec<(u64, u16), 48>
         requires few { length sample.now ≤ 48 }
-        requires complete { list_all (complete_by (terms_of C.Category K.Kind P.Package self.now).random) (map P.Package.reading sample.now) ≡ true }
-        ensures { result.items ≡ package_mavs (terms_of C.Category K.Kind P.Package self.now) (map P.Package.reading sample.now) }
+        requires complete { list_all (complete_by (terms_of C.Category K.Kind P.Package self.now).random)
+            (map P.Package.reading sample.now) ≡ true }
+        ensures { result.items ≡ package_mavs (terms_of C.Category K.Kind P.Package self.now)
+            (map P.Package.reading sample.now) }
     {
         let mut mavs = ArrayVec::new();
         for held in sample {
@@ -94,7 +96,8 @@ impl<C: Category, K: Kind> Sheet<C, K> {
 
     // The record that closing makes, or the first question that fails.
     fn judged<P: Package>(&self, list: &PackageList<P>) -> Result<Record, Refusal>
-        ensures { Judges (terms_of C.Category K.Kind P.Package self.now) self.now.phase (rows_of P.Package list.now) result }
+        ensures { Judges (terms_of C.Category K.Kind P.Package self.now) self.now.phase
+            (rows_of P.Package list.now) result }
     {
         let Some(sample) = list.first(self.plan.sample as usize) else {
             return Err(Refusal::FewPlaces);

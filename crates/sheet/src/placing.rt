@@ -74,7 +74,8 @@ pub(crate) fn place_next<P: Package>(
     next: Result<Reading, Refusal>,
 ) -> Result<(), Refusal>
     requires { 1 ≤ place }
-    ensures places { Places P.Package.labeled (rows_of P.Package list.old) place next result (rows_of P.Package list.new) }
+    ensures places { Places P.Package.labeled (rows_of P.Package list.old) place next
+        result (rows_of P.Package list.new) }
     ensures memory { SameMemory list.old.places list.new.places }
 {
     list.put(place as usize - 1, next?);

@@ -1,4 +1,4 @@
-ghost use Rattle.std.specs.Prelude.{◌≡◌, ◌-◌, ◌*◌, ◌^◌, ◌≤◌, map, length, pos, ◌-ℤ◌, MatchOption, unsigned_abs};
+ghost use Rattle.std.specs.Prelude.{◌≡◌, ◌-◌, ◌*◌, ◌^◌, ◌≤◌, map, length, pos, ◌-ℤ◌, unsigned_abs};
 ghost use Rattle.std.specs.Int.{int_max, int_min};
 ghost use Rattle.packages.specs.Readings.{gross_of, tare_of};
 ghost use Rattle.sheet.specs.Tare.{label_by, is_opened, all_opened, total_for, tare_sum, average_of, Ranges, settling as settling_by};
@@ -119,8 +119,10 @@ fn ranges<P: Package>(places: &[P], label: Option<u32>) -> Option<(u64, u64)>
 impl<C: Category, K: Kind> Sheet<C, K> {
     // How many packages are opened in all to find the tare, by those that are opened first.
     fn total_for<P: Package>(&self, opened: &[P]) -> u32
-        requires { (length opened.now ≡ (terms_of C.Category K.Kind P.Package self.now).initial) × (length opened.now ≤ 48) }
-        ensures { result ≡ total_for (terms_of C.Category K.Kind P.Package self.now) (map P.Package.reading opened.now) }
+        requires initial { length opened.now ≡ (terms_of C.Category K.Kind P.Package self.now).initial }
+        requires few { length opened.now ≤ 48 }
+        ensures { result ≡ total_for (terms_of C.Category K.Kind P.Package self.now)
+            (map P.Package.reading opened.now) }
     {
         match ranges(opened, self.lot.label) {
             None => 0,
@@ -136,7 +138,8 @@ impl<C: Category, K: Kind> Sheet<C, K> {
     // The phase that settling leads to, or the first question that fails.
     pub(crate) fn settling<P: Package>(&self, list: &PackageList<P>) -> Result<Phase, Refusal>
         requires { self.now.plan.sample ≤ length list.now.places.now }
-        ensures { result ≡ settling_by (terms_of C.Category K.Kind P.Package self.now) (rows_of P.Package list.now) }
+        ensures { result ≡ settling_by (terms_of C.Category K.Kind P.Package self.now)
+            (rows_of P.Package list.now) }
     {
         let initial = if self.kind.is_weighed() {
             self.plan.initial
