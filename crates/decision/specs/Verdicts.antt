@@ -1,5 +1,5 @@
 -- The verdict on a sample, from its figures alone.
-use Rattle.std.specs.Prelude.{◌≡◌, ℕ, ◌-◌, ◌*◌, ◌/◌, ◌≤◌, Bool, true, if◌then◌else◌, MatchBool, ⊤, not, List, length, codes, ℤ, pos, ◌-ℤ◌, ◌*ℤ◌, ◌≤ℤ◌, ◌<ℤ◌, int_le, int_lt, nat_lt, unsigned_abs}
+use Rattle.std.specs.Prelude.{◌≡◌, ℕ, ◌-◌, ◌*◌, ◌/◌, ◌≤◌, Bool, true, if◌then◌else◌, cond, ⊤, not, List, length, codes, ℤ, pos, ◌-ℤ◌, ◌*ℤ◌, ◌≤ℤ◌, ◌<ℤ◌, int_le, int_lt, nat_lt, unsigned_abs}
 use Rattle.decision.specs.declared.outcome.Figures.{Figures}
 use Rattle.decision.specs.declared.outcome.Verdict.{Verdict}
 use Rattle.decision.specs.declared.outcome.Verdict.TheVariants.{Mav, Plan, Over, Average, Within}
@@ -62,7 +62,7 @@ pub record Largest (n x v : ℕ) : Type 0 where
 -- the deviation v and the limit l, in thousandths; both 0 where the average does not apply
 abbrev pub Deviates : Rule → Figures → ℕ → ℕ → Type 0
 Deviates rule f v l =
-    MatchBool rule.average (Largest f.sample (1000000 * unsigned_abs (spread f)) v × (l ≡ v * rule.factor / 1000)) ((v ≡ 0) × (l ≡ 0))
+    cond rule.average (Largest f.sample (1000000 * unsigned_abs (spread f)) v × (l ≡ v * rule.factor / 1000)) ((v ≡ 0) × (l ≡ 0))
 
 -- The average shortfall -S / n is above the sample error limit, factor / 1000 times the exact sample standard deviation s. Both
 -- sides are squared and multiplied by 10^6 * n * n * (n - 1), where n * (n - 1) * s * s is the sum of the squares of all differences.
