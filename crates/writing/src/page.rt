@@ -10,6 +10,7 @@ use arrayvec::ArrayVec;
 use itoa::{Buffer, Integer};
 
 // A text of at most N bytes. It is put together here, and then printed at once.
+// no `write!`: none of its clauses says that it succeeds where there is room
 #[derive(Drop)]
 pub(crate) struct Page<const N: usize> {
     bytes: ArrayVec<u8, N>,
