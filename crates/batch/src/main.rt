@@ -10,6 +10,7 @@ use packages::reading::Reading;
 use packages::records::Random;
 use std::io::{Read, Write};
 
+// Digit by digit, since `parse` takes a sign too.
 fn length_of(digits: &[u8]) -> Option<usize> {
     digits.iter().try_fold(0_usize, |length, digit| {
         let digit = char::from(*digit).to_digit(10)?;

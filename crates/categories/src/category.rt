@@ -16,7 +16,7 @@ pub trait Category {
     fn plan(&self, size: u32, word: &str, label: u64) -> Option<Plan>
         ensures { result ≡ option_map (λ sampling. sampling.plan) (meaning self.now size word.now label) };
 
-    // 0 where the category does not take the lot.
+    // 0 where the category does not take the lot: a number, since the sheet asks only of a lot that was taken.
     fn tare_total(&self, size: u32, word: &str, label: u64, ratio: u64) -> u32
         ensures { result ≡ total_at (meaning self.now size word.now label) ratio };
 

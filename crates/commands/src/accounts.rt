@@ -4,6 +4,7 @@ ghost use Rattle.commands.specs.Faults.{account};
 use crate::fault::{Fault, Why};
 
 impl Fault {
+    // No trait over the four enums that have a number and a letter: each has its own account, and no caller takes any of them.
     // The number of the question that was answered by no.
     pub fn number(&self) -> u32
         ensures { result ≡ (account self.now.why).number }

@@ -10,6 +10,8 @@ use sheet::call::Call;
 use words::reader::Reader;
 use words::word::{Verb, Word};
 
+// The words of every command are taken by `let .. else`, a fixed form: each says itself where its line stops.
+
 // The numbers of a lot are asked before its names.
 fn lot(mut line: Line<'_>) -> Result<Command, Fault>
     ensures { result ≡ read_line line.entry verb.Lot }
@@ -96,6 +98,7 @@ fn weight(mut line: Line<'_>) -> Result<(u32, u32, Option<u32>), Fault>
     };
     let place = line.number(place)?;
     let gross = line.number(gross)?;
+    // a match: with `map` and `transpose` the proof did not close
     let label = match label {
         Some(label) => Some(line.number(label)?),
         None => None,

@@ -24,6 +24,7 @@ pub fn transcribe<P: Package>(
         all.extend_from_slice(b"1 1 T 1\n")?;
         return Ok(all);
     }
+    // a buffer, since the console's call writes into memory that is lent
     let mut out = [0; 256];
     let mut session = Session::Idle;
     for (at, line) in Lines(text).enumerate() {

@@ -47,7 +47,8 @@ fn ask(errors: &[i32], mavs: usize, rule: Rule) -> Result<(), Fault>
     Ok(())
 }
 
-// Decides a lot from the errors of its sample, in divisions, and the MAV of each package, in base units.
+// Decides a lot from the errors of its sample, in divisions, and the MAV of each package, in base units. No slice of pairs: the
+// rule for two lists decides two lists of errors by one of MAVs.
 pub fn decide(
     errors: &[i32],
     mavs: &[(u64, u16)],

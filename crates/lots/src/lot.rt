@@ -25,6 +25,7 @@ pub enum LotFault {
     NotTaken,
 }
 
+// A range has a name where it is asked; ends as const parameters would say less.
 pub(crate) fn is_label(label: u32) -> bool
     ensures { result ≡ label_in_range (Some label) }
 {

@@ -17,6 +17,7 @@ impl From<LotFault> for Refusal {
 }
 
 impl Refusal {
+    // No trait over the four enums that have a number and a letter: each has its own account, and no caller takes any of them.
     // The number of the question that was answered by no.
     pub fn number(&self) -> u32
         ensures { result ≡ (account self.now).number }

@@ -1,4 +1,5 @@
-// Whether the tare is settled: from how many packages, and what it is on average.
+// Whether the tare is settled: from how many packages, and what it is on average. No option: each call is judged by the phase
+// and the call together, and the two names say more there than none.
 #[derive(Clone, Copy, Debug, PartialEq, Eq)]
 pub enum Phase {
     Unsettled,

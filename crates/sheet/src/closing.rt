@@ -20,7 +20,7 @@ use packages::list::PackageList;
 use packages::package::Package;
 use packages::reading::Reading;
 
-// The package's own label on a random sheet, else the sheet's.
+// The package's own label on a random sheet, else the sheet's. A missing one counts as 0, as the rules have it.
 pub fn label_of(sheet: Option<u32>, reading: Reading) -> u32
     ensures { result ≡ label_by sheet reading }
 {

@@ -53,6 +53,7 @@ fn average_of<P: Package>(places: &[P]) -> u32
 {
     match nearest(tare_sum(places), places.len() as u64) {
         Some(average) => average as u32,
+        // the rules have 0 where no package is opened
         None => 0,
     }
 }
@@ -125,6 +126,7 @@ impl<C: Category, K: Kind> Sheet<C, K> {
             (map P.Package.reading opened.now) }
     {
         match ranges(opened, self.lot.label) {
+            // the rules have 0 where none is opened first
             None => 0,
             Some((_, 0)) => opened.len() as u32,
             Some((errors, tares)) => {

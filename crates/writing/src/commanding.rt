@@ -49,6 +49,7 @@ fn is_writable(command: Command) -> bool
     }
 }
 
+// Not beside the enum: only here is a letter a byte.
 fn letter_of(category: HandbookCategory) -> u8
     ensures { result ∷ [] ≡ letter_of category }
 {

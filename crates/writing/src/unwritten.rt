@@ -11,6 +11,7 @@ pub enum Unwritten {
 }
 
 impl Unwritten {
+    // No trait over the four enums that have a number and a letter: each has its own account, and no caller takes any of them.
     // The number of the question that was answered by no.
     pub fn number(&self) -> u32
         ensures { result ≡ (account self.now).number }
