@@ -42,6 +42,7 @@ pub(crate) fn measure(errors: &[i32], mavs: &[(u64, u16)], division: u32) -> Fig
 {
     let mut total: i64 = 0;
     let mut squares: i64 = 0;
+    // a loop, since of a chain's signed sum no bound is known
     for error in errors {
         let e = i64::from(*error);
         total += e;

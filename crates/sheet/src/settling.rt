@@ -39,6 +39,7 @@ fn tare_sum<P: Package>(places: &[P]) -> u64
     ensures is { result ≡ tare_sum (map P.Package.reading places.now) }
     ensures bound { result ≤ (2 ^ 32 - 1) * length places.now }
 {
+    // a loop, whose turns bound the sum
     let mut sum = 0;
     for held in places {
         sum += u64::from(tare_of(held.read()));
