@@ -3,7 +3,7 @@ use crate::plan::Row;
 // The printed sampling plans, row by row: the largest lot that the row reaches, and its plan.
 
 // Sample size, sample correction factor in thousandths, allowed number, initial tare size. A macro, since a constant cannot call a
-// `const fn` yet.
+// `const fn`.
 macro_rules! row {
     ($sample:literal, $factor:literal, $allowed:literal, $initial:literal) => {
         Row {

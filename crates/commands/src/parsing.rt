@@ -98,7 +98,7 @@ fn weight(mut line: Line<'_>) -> Result<(u32, u32, Option<u32>), Fault>
     };
     let place = line.number(place)?;
     let gross = line.number(gross)?;
-    // a match: with `map` and `transpose` the proof did not close
+    // a match: with `map` and `transpose` the proof does not close
     let label = match label {
         Some(label) => Some(line.number(label)?),
         None => None,

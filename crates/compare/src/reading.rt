@@ -8,12 +8,12 @@ use sheet::call::Call;
 use std::alloc::{AllocError, Global};
 use std::str::SplitWhitespace;
 
-// A lot line and the calls after it.
+// A lot line and the calls after it. The form is this program's own, so it has a reader of its own.
 #[derive(Drop)]
 pub struct Block {
     pub start: Option<HandbookStart>,
     pub entries: Vec<Entry>,
-    // the first line that cannot be read
+    // the first line that cannot be read; those behind it are passed over
     pub wrong: Option<usize>,
 }
 

@@ -82,10 +82,7 @@ fn play_line(
     let (session, reply) = handle(session, list, command);
     let noted = played.note(command, open, reply.is_ok());
     let printed = print_answer(rt, command, reply.err());
-    match noted {
-        Ok(()) => (session, printed),
-        Err(error) => (session, Err(error.into())),
-    }
+    (session, noted.map_err(anyhow::Error::from).and(printed))
 }
 
 // Plays a text line by line, up to the end or to what cannot be printed.

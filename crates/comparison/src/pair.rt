@@ -51,7 +51,7 @@ impl Pair<'_> {
     pub(crate) fn first_crossed(&self) -> Option<(usize, usize)>
         ensures { Crossed self.now.first.now self.now.second.now result }
     {
-        // a loop: with `find_map` the proof did not close
+        // a loop: with `find_map` the proof does not close
         for (j, (first, second)) in self.first.iter().zip(self.second).enumerate() {
             if let Some(k) = self.crossed_with((*first, *second)) {
                 return Some((j, k));

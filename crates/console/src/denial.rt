@@ -1,3 +1,4 @@
+use sheet::record::Record;
 use sheet::refusal::Refusal;
 
 // Why a command is not carried out.
@@ -10,3 +11,6 @@ pub enum Denial {
     // the sheet refused it
     Refused(Refusal),
 }
+
+// What a command comes to: a record where it closed the sheet, nothing elsewhere, or why it is not carried out.
+pub type Reply = Result<Option<Record>, Denial>;

@@ -3,7 +3,7 @@ ghost use Rattle.packages.specs.Memory.{SameMemory};
 ghost use Rattle.sheet.specs.Views.{rows_of};
 ghost use Rattle.console.specs.Effects.{idle, standing, reply_of, on_sheet, begun, effect, Follows};
 
-use crate::denial::Denial;
+use crate::denial::{Denial, Reply};
 use crate::session::Session;
 use categories::handbook::HandbookCategory;
 use commands::command::Command;
@@ -17,10 +17,7 @@ use sheet::refusal::Refusal;
 use sheet::sheet::Sheet;
 
 // A command where no sheet was started.
-fn begin<P: Package>(
-    list: &mut PackageList<P>,
-    command: Command,
-) -> (Session, Result<Option<Record>, Denial>)
+fn begin<P: Package>(list: &mut PackageList<P>, command: Command) -> (Session, Reply)
     ensures follows { Follows (begun P.Package.labeled (rows_of P.Package list.old) command) idle (rows_of P.Package list.old) result.1 (standing P.Package.labeled result.0) (rows_of P.Package list.new) }
     ensures memory { SameMemory list.old.places list.new.places }
 {
@@ -41,7 +38,7 @@ fn begin<P: Package>(
 // What a turn of the sheet comes to.
 fn reply_of(
     turned: Result<Record, (Sheet<HandbookCategory, HandbookKind>, Option<Refusal>)>,
-) -> (Session, Result<Option<Record>, Denial>)
+) -> (Session, Reply)
     ensures { result ≡ reply_of turned }
 {
     match turned {
@@ -56,7 +53,7 @@ fn advance<P: Package>(
     sheet: Sheet<HandbookCategory, HandbookKind>,
     list: &mut PackageList<P>,
     command: Command,
-) -> (Session, Result<Option<Record>, Denial>)
+) -> (Session, Reply)
     ensures follows { Follows (on_sheet P.Package.labeled sheet (rows_of P.Package list.old) command) (standing P.Package.labeled (Session.Open sheet)) (rows_of P.Package list.old) result.1 (standing P.Package.labeled result.0) (rows_of P.Package list.new) }
     ensures memory { SameMemory list.old.places list.new.places }
 {
@@ -72,7 +69,7 @@ pub fn handle<P: Package>(
     session: Session,
     list: &mut PackageList<P>,
     command: Command,
-) -> (Session, Result<Option<Record>, Denial>)
+) -> (Session, Reply)
     ensures follows { Follows (effect P.Package.labeled (standing P.Package.labeled session) (rows_of P.Package list.old) command) (standing P.Package.labeled session) (rows_of P.Package list.old) result.1 (standing P.Package.labeled result.0) (rows_of P.Package list.new) }
     ensures memory { SameMemory list.old.places list.new.places }
 {

@@ -2,7 +2,7 @@ use categories::handbook::HandbookCategory;
 use kinds::handbook::HandbookKind;
 use sheet::sheet::Sheet;
 
-// Where an inspection stands: no sheet was started yet, one is open, or it was closed.
+// Where an inspection stands: no sheet was started yet, one is open, or it was closed. Three cases, so no option.
 pub enum Session {
     Idle,
     Open(Sheet<HandbookCategory, HandbookKind>),

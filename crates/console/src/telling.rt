@@ -7,14 +7,13 @@ ghost use Rattle.commands.specs.Faults.{account as fault_account};
 ghost use Rattle.console.specs.Effects.{standing};
 ghost use Rattle.console.specs.Transcripts.{first_column, refused_at, told_by, said, ending, Answers, Ended};
 
-use crate::denial::Denial;
+use crate::denial::Reply;
 use crate::handling::handle;
 use crate::session::Session;
 use commands::fault::Fault;
 use commands::parsing::parse;
 use packages::list::PackageList;
 use packages::package::Package;
-use sheet::record::Record;
 use words::reader::Reader;
 use writing::refusing::write_refusal;
 use writing::reporting::{write_open, write_report};
@@ -43,12 +42,7 @@ fn tell_fault(fault: Fault, out: &mut [u8]) -> Result<usize, Unwritten>
 }
 
 // What a command came to, of a line with its number and the column of its first word.
-fn tell(
-    reply: Result<Option<Record>, Denial>,
-    line: usize,
-    column: usize,
-    out: &mut [u8],
-) -> Result<usize, Unwritten>
+fn tell(reply: Reply, line: usize, column: usize, out: &mut [u8]) -> Result<usize, Unwritten>
     requires { 256 ≤ length out.old }
     ensures { Writes 256 (told_by line column reply) out.old result out.new }
 {

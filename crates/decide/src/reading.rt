@@ -85,7 +85,7 @@ pub struct Block {
     pub labels: Vec<u32>,
     pub first: Option<Vec<i32>>,
     pub second: Option<Vec<i32>>,
-    // the first line that is wrong
+    // the first line that is wrong; those behind it are passed over
     pub wrong: Option<(usize, Wrong)>,
 }
 

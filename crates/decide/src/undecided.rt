@@ -1,5 +1,6 @@
 use crate::reading::Wrong;
 use decision::outcome::Fault;
+use lots::lot::LotFault;
 use std::fmt;
 
 // Why a lot is not decided.
@@ -9,10 +10,8 @@ pub enum Undecided {
     Line(usize, Wrong),
     // its first line is missing
     NoLot,
-    // a number of the lot on this line is out of range
-    OutOfRange(usize),
-    // the category does not take the lot on this line
-    NotTaken(usize),
+    // the lot on this line is not inspected
+    Lot(usize, LotFault),
     // the labels are not those of the sample
     Labels,
     // it has no list of errors
@@ -26,13 +25,13 @@ impl fmt::Display for Undecided {
         match self {
             Undecided::Line(line, wrong) => write!(f, "line {line}: {wrong}"),
             Undecided::NoLot => write!(f, "the first line of a lot is missing"),
-            Undecided::OutOfRange(line) => {
+            Undecided::Lot(line, LotFault::OutOfRange) => {
                 write!(
                     f,
                     "line {line}: lot size, division or label is out of range"
                 )
             }
-            Undecided::NotTaken(line) => {
+            Undecided::Lot(line, LotFault::NotTaken) => {
                 write!(f, "line {line}: the category does not take this lot")
             }
             Undecided::Labels => write!(

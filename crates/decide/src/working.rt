@@ -7,7 +7,6 @@ use comparison::premises::Refused;
 use decision::deciding::decide;
 use decision::outcome::{Decision, Fault};
 use findings::consequences::{Consequences, Subject};
-use lots::lot::LotFault;
 use lots::planning::{package_mav, plan_lot};
 use std::alloc::{AllocError, Global};
 
@@ -129,11 +128,10 @@ fn planned(block: &Block) -> Result<Option<(Typed, Plan)>, Undecided> {
         }
         return Ok(None);
     };
-    match plan_lot(&typed.category, &typed.kind, typed.lot) {
-        Ok(plan) => Ok(Some((typed, plan))),
-        Err(LotFault::OutOfRange) => Err(Undecided::OutOfRange(typed.line)),
-        Err(LotFault::NotTaken) => Err(Undecided::NotTaken(typed.line)),
-    }
+    let plan = plan_lot(&typed.category, &typed.kind, typed.lot).map_err(|fault| Undecided::Lot(
+        typed.line, fault,
+    ))?;
+    Ok(Some((typed, plan)))
 }
 
 // Decides the lot of a block, or says why it is not decided.

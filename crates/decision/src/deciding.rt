@@ -7,7 +7,7 @@ use crate::measuring::measure;
 use crate::outcome::{Decision, Fault};
 use crate::rule::Rule;
 
-// Errors go from -8000 to 8000.
+// Not from -8000 to 8000.
 fn is_outside(error: i32) -> bool
     ensures { result ≡ nat_lt 8000 (unsigned_abs error) }
 {

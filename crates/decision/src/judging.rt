@@ -5,12 +5,12 @@ ghost use Rattle.decision.specs.Answer.{Concluded};
 use crate::outcome::{Decision, Figures, Verdict};
 use crate::rule::{Counted, Rule};
 
-// The figures of a sample before the rule that judges them.
+// The figures of a sample, with the rule that judges them.
 #[derive(Drop)]
 pub(crate) struct Case {
     rule: Rule,
     figures: Figures,
-    // n * Q - S * S
+    // sample size times squares, less the square of the total
     spread: i64,
     ghost judgeable: { Judgeable rule figures },
     ghost spread_is: { spread ≡ spread_of figures },
@@ -30,7 +30,7 @@ impl Case {
         }
     }
 
-    // K: how many packages count against the allowed number.
+    // How many packages count against the allowed number.
     fn counted(&self) -> u32
         ensures { result ≡ counted self.now.rule self.now.figures }
     {

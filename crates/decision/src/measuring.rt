@@ -9,7 +9,7 @@ pub fn is_short(error: i32) -> bool
     error < 0
 }
 
-// The shortage is above the MAV, numerator and denominator in base units, of which the division has so many.
+// Short by more than the maximum allowable variation (MAV), a fraction of base units, of which a division has so many.
 pub fn is_unreasonable(error: i32, division: u32, mav: (u64, u16)) -> bool
     ensures { result ≡ is_unreasonable division mav error }
 {

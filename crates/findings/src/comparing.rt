@@ -8,7 +8,7 @@ use crate::unfollowed::NothingFollows;
 use comparison::comparing::compare;
 
 impl Findings {
-    // They share category, kind, lot size, division and labels; allowances may differ.
+    // They share category, kind, lot size, division and labels: field by field, since allowances may differ.
     fn shares(&self, other: &Findings) -> bool
         ensures { IsTrue result ↔ Share self.now other.now }
     {

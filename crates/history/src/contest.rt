@@ -13,7 +13,7 @@ use packages::list::PackageList;
 use packages::package::Package;
 use sheet::sheet::Sheet;
 
-// Starts a sheet and runs it.
+// Starts a sheet and runs it. Start, list and entries stay three: a struct that held the list would tie its memory to one sheet.
 pub fn start_and_run<C: Category + Drop, K: Kind + Drop, P: Package>(
     start: Start<C, K>,
     list: &mut PackageList<P>,

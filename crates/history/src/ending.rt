@@ -13,7 +13,7 @@ pub struct Start<C: Category, K: Kind> {
     pub lot: Lot,
 }
 
-// How a run ended: the sheet was not started, it is still open, or it was closed.
+// How a run ended: the sheet was not started, it is still open, or it was closed. Three ways, so no Result.
 pub enum Ending<C: Category, K: Kind> {
     Refused(Refusal),
     Open(Sheet<C, K>),

@@ -13,7 +13,8 @@ use sheet::record::Record;
 use sheet::refusal::Refusal;
 use sheet::sheet::Sheet;
 
-// One entry: a record where it is a closing that is accepted, else the sheet, still open, and the refusal if any.
+// One entry: a record where it is a closing that is accepted, else the sheet, still open, and the refusal if any. Closing moves the
+// sheet, so what comes back open is the error.
 pub fn turn<C: Category + Drop, K: Kind + Drop, P: Package>(
     sheet: Sheet<C, K>,
     list: &mut PackageList<P>,

@@ -89,7 +89,7 @@ impl Kind for HandbookKind {
     }
 }
 
-// Each row of each printed table reaches further than the row before it: said where the tables are, of kinds and of categories.
+// Each row of each printed table of this crate reaches further than the row before it.
 pub fn rows_ascend()
     ensures { IsTrue all_ascend }
 {}

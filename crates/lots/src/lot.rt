@@ -25,8 +25,8 @@ pub enum LotFault {
     NotTaken,
 }
 
-// A range has a name where it is asked; ends as const parameters would say less.
-pub(crate) fn is_label(label: u32) -> bool
+// From 1 to 999999. Each range has a name; ends as const parameters would say less.
+pub fn is_label(label: u32) -> bool
     ensures { result ≡ label_in_range (Some label) }
 {
     (1..=999_999).contains(&label)

@@ -12,6 +12,7 @@ pub struct PackageList<'a, P: Package> {
     places: &'a mut [P],
 }
 
+// Functions of the slice: the methods below pass it on, a fixed form.
 fn read_at<P: Package>(places: &[P], place: usize) -> Reading
     ensures { result ≡ slice_index_or (map P.Package.reading places.now) place Empty }
 {

@@ -16,8 +16,9 @@ impl From<LotFault> for Refusal {
     }
 }
 
+// Four enums are refusals with a number and a letter, each by a definition of its own. No trait over them: no caller takes any of
+// the four.
 impl Refusal {
-    // No trait over the four enums that have a number and a letter: each has its own account, and no caller takes any of them.
     // The number of the question that was answered by no.
     pub fn number(&self) -> u32
         ensures { result ≡ (account self.now).number }

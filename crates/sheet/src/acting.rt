@@ -44,7 +44,7 @@ fn is_weighable(random: bool, call: Call) -> bool
 }
 
 impl<C: Category, K: Kind> Sheet<C, K> {
-    // The call by the sheet's phase, once its place, weight and label are asked.
+    // The call by the sheet's phase, once its place, weight and label are asked. One match on both, a fixed form.
     fn perform<P: Package>(&mut self, list: &mut PackageList<P>, call: Call) -> Result<(), Refusal>
         requires enough_places { self.old.plan.sample ≤ length list.old.places.now }
         requires placed { placed_by self.old.plan.sample (place_of call) ≡ true }

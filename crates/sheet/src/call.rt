@@ -6,7 +6,7 @@ pub enum Phase {
     Settled { total: u32, average: u32 },
 }
 
-// A call on an open sheet. Places count from 1.
+// A call on an open sheet. Places count from 1. Weighing and correcting name their numbers, as every call does, and share no struct.
 #[derive(Clone, Copy, Debug, PartialEq, Eq)]
 pub enum Call {
     Weigh {

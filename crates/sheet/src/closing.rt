@@ -1,5 +1,6 @@
 ghost use Rattle.std.specs.Prelude.{◌≡◌, ◌≤◌, true, map, length, is_some, None, MatchOption, nat_le, unsigned_abs};
 ghost use Rattle.std.specs.List.{list_all};
+ghost use Rattle.packages.specs.Readings.{gross_of};
 ghost use Rattle.decision.specs.Answer.{outside};
 ghost use Rattle.sheet.specs.Closing.{complete as complete_by, lot_error, package_mavs, Judges, Closes};
 ghost use Rattle.sheet.specs.Tare.{label_by};
@@ -27,14 +28,20 @@ pub fn label_of(sheet: Option<u32>, reading: Reading) -> u32
     sheet.or(reading.label()).unwrap_or(0)
 }
 
+// An empty place weighs 0, as the rules have it.
+pub(crate) fn gross_of(reading: Reading) -> u32
+    ensures { result ≡ gross_of reading }
+{
+    reading.gross().unwrap_or(0)
+}
+
 // Gross less label less average tare, and the moisture that is allowed for.
 pub fn package_error(lot: Lot, average: u32, reading: Reading) -> i64
     ensures { result ≡ lot_error lot average reading }
 {
-    let gross = reading.gross().unwrap_or(0);
     let label = label_of(lot.label, reading);
     let moisture = u64::from(label) * u64::from(lot.allowance) / 1_000;
-    i64::from(gross) - i64::from(label) - i64::from(average) + moisture as i64
+    i64::from(gross_of(reading)) - i64::from(label) - i64::from(average) + moisture as i64
 }
 
 // Weighed, with the label that belongs there.
@@ -53,6 +60,7 @@ fn all_complete<P: Package>(random: bool, sample: &[P]) -> bool
     sample.iter().all(|held| is_complete(random, held))
 }
 
+// As the decision asks it, before an error is narrowed.
 fn is_in_range(error: i64) -> bool
     ensures { result ≡ nat_le (unsigned_abs error) 8000 }
 {

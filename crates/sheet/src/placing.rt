@@ -4,6 +4,7 @@ ghost use Rattle.sheet.specs.Steps.{label_fits, weighed as weighed_by, corrected
 ghost use Rattle.sheet.specs.Views.{rows_of};
 
 use crate::refusal::Refusal;
+use lots::lot::is_label as is_in_range;
 use packages::list::PackageList;
 use packages::package::Package;
 use packages::reading::Reading;
@@ -13,7 +14,7 @@ pub(crate) fn is_label(random: bool, label: Option<u32>) -> bool
     ensures { result ≡ label_fits random label }
 {
     match label {
-        Some(label) => random && (1..=999_999).contains(&label),
+        Some(label) => random && is_in_range(label),
         None => !random,
     }
 }

@@ -5,7 +5,7 @@ ghost use Rattle.sheet.specs.Tare.{label_by, is_opened, all_opened, total_for, t
 ghost use Rattle.sheet.specs.Views.{rows_of, terms_of};
 
 use crate::call::Phase;
-use crate::closing::label_of;
+use crate::closing::{gross_of, label_of};
 use crate::refusal::Refusal;
 use crate::sheet::Sheet;
 use categories::category::Category;
@@ -64,8 +64,7 @@ fn net_error(label: Option<u32>, reading: Reading) -> i64
     ensures is { result ≡ pos (gross_of reading) -ℤ pos (tare_of reading) -ℤ pos (label_by label reading) }
     ensures bound { unsigned_abs result ≤ 2 ^ 33 }
 {
-    let gross = reading.gross().unwrap_or(0);
-    i64::from(gross) - i64::from(tare_of(reading)) - i64::from(label_of(label, reading))
+    i64::from(gross_of(reading)) - i64::from(tare_of(reading)) - i64::from(label_of(label, reading))
 }
 
 // The smallest and the largest of some numbers, met one by one: of a chain's `max` a proof knows only

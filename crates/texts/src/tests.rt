@@ -64,6 +64,7 @@ fn put_twice(
     (session, written)
 }
 
+// As the console lets a session go, in a function that only it can call.
 fn let_go(session: Session) {
     match session {
         Session::Open(sheet) => {

@@ -70,7 +70,8 @@ impl<const N: usize> Page<N> {
         self.text(b"\n");
     }
 
-    // Copied into the front of an output that has room for every page of this size. A smaller one is left as it was.
+    // Copied into the front of the bytes that the caller lends, if they have room for every page of this size; else they are left
+    // as they were.
     pub(crate) fn print(&self, out: &mut [u8]) -> Result<usize, Unwritten>
         ensures { Writes N self.now.bytes.items out.old result out.new }
     {

@@ -6,6 +6,7 @@ pub(crate) enum Word<'a> {
     Number(u32),
     // a number, or a dash for none
     Label(Option<u32>),
+    // a number of up to twenty digits
     Wide(u64),
     Signed(i64),
 }
