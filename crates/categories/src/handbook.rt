@@ -8,7 +8,7 @@ use crate::printed::{A, A_PAST, A_TARE, B, B_PAST, B_TARE, C, C_PAST};
 use crate::unknown::UnknownCategory;
 use decision::rule::{Counted, Rule};
 use kinds::words::{is_count, is_weight};
-use tables::reached;
+use tables::reached_row;
 
 // The categories of the handbook: A for most lots, B for meat and poultry in a plant, C for low counts.
 #[derive(Clone, Copy, Debug, PartialEq, Eq)]
@@ -58,7 +58,7 @@ impl HandbookCategory {
         ensures { result ≡ row_of self size }
     {
         let (rows, past) = self.table();
-        reached(rows, past, u64::from(size))
+        reached_row(rows, past, u64::from(size))
     }
 
     fn takes(self, size: u32, word: &str, label: u64) -> bool
@@ -98,7 +98,11 @@ impl HandbookCategory {
         let initial = row.initial;
         match self {
             HandbookCategory::A => {
-                let (of_12, of_24, of_48) = reached(&A_TARE, (initial, initial, initial), ratio);
+                let (of_12, of_24, of_48) = reached_row(
+                    &A_TARE,
+                    (initial, initial, initial),
+                    ratio,
+                );
                 match row.sample {
                     12 => of_12,
                     24 => of_24,
@@ -107,7 +111,7 @@ impl HandbookCategory {
                 }
             }
             HandbookCategory::B => {
-                let (of_10, of_30) = reached(&B_TARE, (initial, initial), ratio);
+                let (of_10, of_30) = reached_row(&B_TARE, (initial, initial), ratio);
                 match row.sample {
                     10 => of_10,
                     30 => of_30,

@@ -7,7 +7,7 @@ use crate::kind::Kind;
 use crate::label::Label;
 use crate::printed::{CNT, LEN, LSI, MSI, MUS};
 use crate::unknown::UnknownKind;
-use tables::reached;
+use tables::reached_row;
 
 // The kinds of the handbook: weight in milligrams and in ten-thousandths of a pound, liquid volume in tenths of a
 // milliliter, count in items, length in millimeters, area in square centimeters.
@@ -60,7 +60,7 @@ impl HandbookKind {
         ensures { result ≡ entry self label.units }
     {
         let (rows, past) = self.table();
-        reached(rows, past, label.units())
+        reached_row(rows, past, label.units())
     }
 }
 

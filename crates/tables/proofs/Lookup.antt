@@ -1,9 +1,9 @@
 -- What a table has for an amount: the value of the first row that reaches it, with what a test of all rows shows of it.
-use Rattle.std.proofs.Common.{◌≡◌, ℕ, ◌<◌, Bool, true, false, cond, ◌&&◌, leb, nat_le, List, [], ◌∷◌, Some, refl}
+use Rattle.std.proofs.Common.{◌≡◌, ℕ, zero, suc, ◌<◌, ◌≤◌, Bool, true, false, cond, ◌&&◌, leb, nat_le, List, [], ◌∷◌, length, get_or, Some, refl, ◌∙◌, suc-le-suc, arith}
 use Rattle.std.specs.List.{find, list_all}
 use Rattle.std.specs.Option.{option_map_or}
-use Rattle.std.proofs.lemmas.Bool.{cond_both, and_parts, leb-false}
-use Rattle.tables.specs.Rows.{reached}
+use Rattle.std.proofs.lemmas.Bool.{cond-true, cond-false, cond_both, and_parts, le-leb, lt-leb, leb-false}
+use Rattle.tables.specs.Rows.{rows, reached}
 
 -- the first row that reaches the amount gives its value, and past the last row there is `past`
 pub reached_found : {V : Type 0} (past : V) (amount : ℕ) (table : List (ℕ × V)) → reached table past amount ≡ option_map_or (λ row. row.1) (find (λ row. nat_le amount row.0) table) past
@@ -11,6 +11,27 @@ unfolding reached
 reached_found past amount [] = refl
 reached_found past amount (row ∷ rest) =
     elim (nat_le amount row.0) as (λ b. cond b row.1 (reached rest past amount) ≡ option_map_or (λ row. row.1) (cond b (Some row) (find (λ row. nat_le amount row.0) rest)) past) [ true ↦ refl | false ↦ reached_found past amount rest ]
+
+-- in two columns it is the value beside the first end that is not below the amount
+module _ {V : Type 0} (past : V) (amount : ℕ) where
+  -- row r is the first that reaches the amount
+  pub found : (ends : List ℕ) (values : List V) (r : ℕ) (d : V) → r < length ends → r < length values → ((k : ℕ) → k < r → get_or ends k 0 < amount) → amount ≤ get_or ends r 0 → reached (rows ends values) past amount ≡ get_or values r d
+  unfolding reached
+  found [] values r d h i b f = absurd (omega arith)
+  found (e ∷ es) [] r d h i b f = absurd (omega arith)
+  found (e ∷ es) (v ∷ vs) zero d h i b f = cond-true _ _ _ (le-leb amount e f)
+  found (e ∷ es) (v ∷ vs) (suc r) d h i b f =
+      cond-false _ _ _ (lt-leb amount e (b 0 (omega arith))) ∙ found es vs r d (omega arith) (omega arith) (λ k l. b (suc k) (suc-le-suc l)) f
+
+  -- no row reaches the amount
+  pub none : (ends : List ℕ) (values : List V) (r : ℕ) → (r < length ends → r < length values → ⊥) → ((k : ℕ) → k < r → get_or ends k 0 < amount) → reached (rows ends values) past amount ≡ past
+  unfolding reached
+  none [] [] r h b = refl
+  none [] (v ∷ vs) r h b = refl
+  none (e ∷ es) [] r h b = refl
+  none (e ∷ es) (v ∷ vs) zero h b = absurd (h (omega arith) (omega arith))
+  none (e ∷ es) (v ∷ vs) (suc r) h b =
+      cond-false _ _ _ (lt-leb amount e (b 0 (omega arith))) ∙ none es vs r (λ i j. h (suc-le-suc i) (suc-le-suc j)) (λ k l. b (suc k) (suc-le-suc l))
 
 -- each row's value passes a test
 abbrev pub every : {V : Type 0} → (V → Bool) → List (ℕ × V) → Bool

@@ -1,5 +1,9 @@
 -- A printed table: rows, each with the largest amount that it reaches and what it gives.
-use Rattle.std.specs.Prelude.{ℕ, Bool, true, if◌then◌else◌, ◌&&◌, List, [], ◌∷◌, nat_le, nat_lt}
+use Rattle.std.specs.Prelude.{ℕ, Bool, true, if◌then◌else◌, ◌&&◌, List, [], ◌∷◌, nat_le, nat_lt, zip}
+
+-- the rows of a column of ends beside a column of values, as many as the shorter has
+abbrev pub rows : {V : Type 0} → List ℕ → List V → List (ℕ × V)
+rows ends values = zip ends values
 
 -- the first row that reaches the amount, and past the last row `past`
 unfoldable pub reached : {V : Type 0} → List (ℕ × V) → V → ℕ → V

@@ -16,16 +16,16 @@ module _ (row : Row) (ratio : ℕ) {category : HandbookCategory} where
   of_b k s e = cc
 
 pub returns-in-12 : goal.returns-in-12
-returns-in-12 c = of_a c.args.row c.args.ratio c.in-A.is c.in-12.is c.reached-of_12.ensures
+returns-in-12 c = of_a c.args.row c.args.ratio c.in-A.is c.in-12.is c.reached_row-of_12.ensures
 
 pub returns-in-24 : goal.returns-in-24
-returns-in-24 c = of_a c.args.row c.args.ratio c.in-A.is c.in-24.is c.reached-of_12.ensures
+returns-in-24 c = of_a c.args.row c.args.ratio c.in-A.is c.in-24.is c.reached_row-of_12.ensures
 
 pub returns-in-48 : goal.returns-in-48
-returns-in-48 c = of_a c.args.row c.args.ratio c.in-A.is c.in-48.is c.reached-of_12.ensures
+returns-in-48 c = of_a c.args.row c.args.ratio c.in-A.is c.in-48.is c.reached_row-of_12.ensures
 
 pub returns-in-10 : goal.returns-in-10
-returns-in-10 c = of_b c.args.row c.args.ratio c.in-B.is c.in-10.is c.reached-of_10.ensures
+returns-in-10 c = of_b c.args.row c.args.ratio c.in-B.is c.in-10.is c.reached_row-of_10.ensures
 
 pub returns-in-30 : goal.returns-in-30
-returns-in-30 c = of_b c.args.row c.args.ratio c.in-B.is c.in-30.is c.reached-of_10.ensures
+returns-in-30 c = of_b c.args.row c.args.ratio c.in-B.is c.in-30.is c.reached_row-of_10.ensures
