@@ -1,13 +1,25 @@
-use Rattle.std.proofs.Common.{◌<◌, length, sym, ◌∙◌, arith, false-eqb}
-use Rattle.words.proofs.Digits.{digits_utf8, read_digits}
+use Rattle.std.proofs.Common.{◌<◌, length, Some, sym, ap, ◌∙◌, arith, false-eqb}
+use Rattle.std.proofs.lemmas.List.{take_all}
+use Rattle.std.proofs.lemmas.Bool.{cond-true}
+use Rattle.words.specs.Numbers.{read_on}
+use Rattle.words.proofs.Digits.{are_digits, digit_here, read_on_more, small, fits_number}
 use Rattle.words.proofs.numbers.read_number.Goals as goal
 
-pub returns-in_default : goal.returns-in_default
-returns-in_default c = absurd (c.in_default.ensures.cases.0 (digits_utf8 _ (sym c.if-not-all_digits.ensures)))
+pub overflow_mul-number : goal.overflow_mul-number
+overflow_mul-number c = omega (arith, small _ _ (are_digits c.args.bytes.now c.if-not-all_digits.ensures) c.if-bytes-gt9.false c.loop-byte-test.true, c.loop-byte.invariant)
+
+pub overflow_sub-byte : goal.overflow_sub-byte
+overflow_sub-byte c = (digit_here _ _ (are_digits c.args.bytes.now c.if-not-all_digits.ensures) c.loop-byte-test.true).0
+
+pub overflow_add-number : goal.overflow_add-number
+overflow_add-number c =
+    omega (arith, small _ _ (are_digits c.args.bytes.now c.if-not-all_digits.ensures) c.if-bytes-gt9.false c.loop-byte-test.true, c.loop-byte.invariant, digit_here _ _ (are_digits c.args.bytes.now c.if-not-all_digits.ensures) c.loop-byte-test.true)
+
+pub loop-byte-preserved : goal.loop-byte-preserved
+loop-byte-preserved c = omega (arith, read_on_more _ _ c.loop-byte-test.true, c.loop-byte.invariant)
 
 pub returns : goal.returns
 returns c =
-    let bs = c.args.bytes.now in
-    let some : 0 < length bs = omega (arith, false-eqb _ 0 c.if-is_empty.ensures) in
-    c.ok.ensures.value
-    ∙ read_digits bs _ (rw c.in-Ok.ensures.cases.0 at c.parse.ensures.value.0) (sym c.if-not-all_digits.ensures) some c.if-bytes-gt9.false c.else-bytes-eq48.either
+    let some : 0 < length c.args.bytes.now = omega (arith, false-eqb _ 0 c.if-is_empty.ensures) in
+    ap Some (c.loop-byte.invariant ∙ ap (read_on 0) (take_all _ _ c.loop-byte-test.false))
+    ∙ sym (cond-true _ _ _ (fits_number _ (are_digits c.args.bytes.now c.if-not-all_digits.ensures) some c.if-bytes-gt9.false c.else-bytes-eq48.either))
