@@ -93,5 +93,5 @@ module _ (t : List ℕ) (p c g w : ℕ) (gap_is : g ≡ gap (take (length t - p)
   pub next_none : w ≡ 0 → words c (drop p t) ≡ []
   next_none h = past_here ∙ no_word_here h (c + g)
 
-  pub after_none : w ≡ 0 → words (c + g + w) (drop (p + g + w) t) ≡ []
-  after_none h = let end : p + g + w ≡ p + g = omega arith in ap (λ n. words (c + g + w) (drop n t)) end ∙ no_word_here h (c + g + w)
+  pub after_none : w ≡ 0 → (k : ℕ) → words k (drop (p + g + w) t) ≡ []
+  after_none h k = let end : p + g + w ≡ p + g = omega arith in ap (λ n. words k (drop n t)) end ∙ no_word_here h k
