@@ -10,6 +10,7 @@ use Rattle.commands.specs.declared.command.Command.TheVariants as command
 use Rattle.commands.specs.declared.fault.Fault.{Fault}
 use Rattle.commands.specs.declared.fault.Why.TheVariants.{TooLong, NotCommand, Miscounted}
 use Rattle.commands.specs.declared.line.Line.{Line}
+pub use Rattle.commands.specs.Behind.{placed}
 use Rattle.commands.specs.Behind.{behind}
 use Rattle.commands.specs.Faults.{fault}
 use Rattle.commands.specs.Fields.{some, number_in, label_in, category_in, kind_in}

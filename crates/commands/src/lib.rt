@@ -5,4 +5,4 @@ pub mod command;
 pub mod fault;
 mod line;
 pub mod parsing;
-mod taking;
+pub mod taking;
