@@ -57,11 +57,7 @@ fn play(
 }
 
 // Plays both sheets, then starts and runs both again over the same lists for their records.
-pub(crate) fn work(
-    rt: &(impl Print + AllocGlobal),
-    first: &Block,
-    second: &Block,
-) -> anyhow::Result<()> {
+pub(crate) fn work(rt: &impl Print, first: &Block, second: &Block) -> anyhow::Result<()> {
     if let Some(line) = first.wrong.or(second.wrong) {
         println!(rt; "line {line} cannot be read")?;
         return Ok(());
@@ -80,9 +76,9 @@ pub(crate) fn work(
     println!(rt; "second sheet")?;
     play(rt, begin, &mut other, more)?;
     let (one, two) = contest(start, begin, &mut list, &mut other, entries, more);
-    let one = Findings::of(rt.alloc(), start, one, &list);
-    let two = Findings::of(rt.alloc(), begin, two, &other);
-    let (Some(one), Some(two)) = (one?, two?) else {
+    let one = Findings::of(start, one, &list);
+    let two = Findings::of(begin, two, &other);
+    let (Some(one), Some(two)) = (one, two) else {
         println!(rt; "nothing follows: a sheet was not closed")?;
         return Ok(());
     };

@@ -9,7 +9,7 @@ use packages::records::Random;
 
 // Starts and runs both sheets again over the same lists, for their records.
 fn run_again(
-    rt: &(impl Print + AllocGlobal),
+    rt: &impl Print,
     first: &Played,
     second: &Played,
     list: &mut PackageList<Random>,
@@ -21,9 +21,9 @@ fn run_again(
     };
     let (entries, more) = (first.entries.as_slice(), second.entries.as_slice());
     let (one, two) = contest(start, begin, list, other, entries, more);
-    let one = Findings::of(rt.alloc(), start, one, list);
-    let two = Findings::of(rt.alloc(), begin, two, other);
-    let (Some(one), Some(two)) = (one?, two?) else {
+    let one = Findings::of(start, one, list);
+    let two = Findings::of(begin, two, other);
+    let (Some(one), Some(two)) = (one, two) else {
         println!(rt; "nothing follows: a sheet was not closed")?;
         return Ok(());
     };

@@ -1,3 +1,4 @@
+use arrayvec::ArrayVec;
 use categories::handbook::HandbookCategory;
 use history::ending::Start;
 use kinds::handbook::HandbookKind;
@@ -12,8 +13,8 @@ pub type HandbookStart = Start<HandbookCategory, HandbookKind>;
 pub struct Findings {
     pub start: HandbookStart,
     pub record: Record,
-    // lists beside one another, since the rule for two takes errors and MAVs as two slices
-    pub labels: Vec<u32>,
-    pub errors: Vec<i32>,
-    pub mavs: Vec<(u64, u16)>,
+    // lists beside one another, since the rule for two takes errors and MAVs as two slices; off the heap, so that finding cannot fail
+    pub labels: ArrayVec<u32, 48>,
+    pub errors: ArrayVec<i32, 48>,
+    pub mavs: ArrayVec<(u64, u16), 48>,
 }

@@ -12,4 +12,5 @@ pub struct Record {
     pub(crate) decision: Decision,
     ghost unreasonable_are_short: { decision.figures.unreasonable ≤ decision.figures.short },
     ghost short_are_drawn: { decision.figures.short ≤ decision.figures.sample },
+    ghost few_are_drawn: { decision.figures.sample ≤ 48 },
 }

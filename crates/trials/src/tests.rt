@@ -360,7 +360,7 @@ fn a_closed_sheet_is_found(rt: HostRuntime) -> Result<(), Fail> {
         Entry::Close,
     ];
     let ending = start_and_run(of_500(3), &mut list, &entries);
-    let found = Findings::of(rt.alloc(), of_500(3), ending, &list)?.ok_or("nothing is found")?;
+    let found = Findings::of(of_500(3), ending, &list).ok_or("nothing is found")?;
     assert_eq!(rt; found.labels.as_slice(), [500, 500, 500].as_slice());
     assert_eq!(rt; found.errors.as_slice(), [0, -3, -1].as_slice());
     assert_eq!(rt; found.mavs.as_slice(), [(280, 1); 3].as_slice());
