@@ -47,10 +47,10 @@ impl<const N: usize> Page<N> {
     {
         match word {
             Word::Text(text) => self.text(text),
-            Word::Letter(letter) => self.text(&[letter]),
+            Word::Letter(letter) => self.bytes.push(letter),
             Word::Number(n) => self.number(n),
             Word::Label(Some(n)) => self.number(n),
-            Word::Label(None) => self.text(b"-"),
+            Word::Label(None) => self.bytes.push(b'-'),
             Word::Wide(n) => self.number(n),
             Word::Signed(n) => self.number(n),
         }
@@ -64,10 +64,10 @@ impl<const N: usize> Page<N> {
     {
         self.word(first);
         for word in others {
-            self.text(b" ");
+            self.bytes.push(b' ');
             self.word(*word);
         }
-        self.text(b"\n");
+        self.bytes.push(b'\n');
     }
 
     // Copied into the front of the bytes that the caller lends, if they have room for every page of this size; else they are left
