@@ -7,6 +7,6 @@ mod comparing;
 pub mod consequences;
 mod finding;
 pub mod outcome;
-mod reporting;
+pub mod reporting;
 pub mod side_by_side;
 pub mod unfollowed;

@@ -10,8 +10,11 @@ use decision::outcome::Decision;
 use sheet::record::Record;
 use std::fmt;
 
+// A closed sheet is said in four parts. They are public for a caller whose list of errors is longer than the 48 of `Findings`.
+
+// How many packages were drawn, from how many of them the tare was settled, and the average tare.
 #[derive(Clone, Copy)]
-struct TareLine<'a>(&'a Record);
+pub struct TareLine<'a>(pub &'a Record);
 
 impl<'a> fmt::Display for TareLine<'a> {
     ghost output = { λ line. Some (tare_text line.0.now) };
@@ -24,8 +27,9 @@ impl<'a> fmt::Display for TareLine<'a> {
     }
 }
 
+// The total of the errors, and how many packages are short, unreasonably short, and counted.
 #[derive(Clone, Copy)]
-struct CountsLine(Decision);
+pub struct CountsLine(pub Decision);
 
 impl fmt::Display for CountsLine {
     ghost output = { λ line. Some (counts_text line.0) };
@@ -42,8 +46,9 @@ impl fmt::Display for CountsLine {
     }
 }
 
+// Deviation and limit, and in a line of its own the verdict.
 #[derive(Clone, Copy)]
-struct VerdictLines(Decision);
+pub struct VerdictLines(pub Decision);
 
 impl fmt::Display for VerdictLines {
     ghost output = { λ lines. Some (verdict_text lines.0) };
@@ -56,8 +61,9 @@ impl fmt::Display for VerdictLines {
     }
 }
 
+// The error of each package, however many there are.
 #[derive(Clone, Copy)]
-struct ErrorsLine<'a>(&'a [i32]);
+pub struct ErrorsLine<'a>(pub &'a [i32]);
 
 impl<'a> fmt::Display for ErrorsLine<'a> {
     ghost output = { λ line. Some (errors_text line.0.now) };

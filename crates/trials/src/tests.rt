@@ -2,6 +2,7 @@ use categories::category::Category;
 use categories::handbook::HandbookCategory;
 use decision::outcome::Verdict;
 use findings::closed::{Findings, HandbookStart};
+use findings::reporting::{CountsLine, ErrorsLine, TareLine, VerdictLines};
 use history::contest::start_and_run;
 use history::ending::{Ending, Start};
 use history::entry::Entry;
@@ -367,6 +368,41 @@ fn a_closed_sheet_is_found(rt: HostRuntime) -> Result<(), Fail> {
     assert_eq!(rt;
         found.to_string(rt.alloc())?.as_str(),
         "sample 3, tare 2 20\ntotal -4, short 2, unreasonable 0, counted 0\ndeviation 1527, limit 3793\nverdict within: passes\nerrors 0 -3 -1"
+    );
+    Ok(())
+}
+
+// Each part alone, and the errors line with more errors than a sample has.
+#[test]
+fn each_part_of_a_report_is_said(rt: HostRuntime) -> Result<(), Fail> {
+    let mut records: [Standard; 3] = empty();
+    let entries = [
+        weigh(1, 520),
+        weigh(2, 517),
+        open(1, 20),
+        open(2, 21),
+        SETTLE,
+        weigh(3, 519),
+        Entry::Close,
+    ];
+    let record = record_of(of_500(3), &mut records, &entries)?;
+    let tare = TareLine(&record).to_string(rt.alloc())?;
+    let counts = CountsLine(record.decision()).to_string(rt.alloc())?;
+    let verdict = VerdictLines(record.decision()).to_string(rt.alloc())?;
+    let errors = ErrorsLine(&[-1; 49]).to_string(rt.alloc())?;
+    let longer = " -1".repeat(rt.alloc(), 49)?;
+    assert_eq!(rt; tare.as_str(), "sample 3, tare 2 20");
+    assert_eq!(rt;
+        counts.as_str(),
+        "total -4, short 2, unreasonable 0, counted 0"
+    );
+    assert_eq!(rt;
+        verdict.as_str(),
+        "deviation 1527, limit 3793\nverdict within: passes"
+    );
+    assert_eq!(rt;
+        errors.as_str().strip_prefix("errors"),
+        Some(longer.as_str())
     );
     Ok(())
 }
